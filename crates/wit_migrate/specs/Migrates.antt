@@ -124,6 +124,11 @@ MovesAsDue due old new (Err Memory) = Unit {0}
 MovesAsDue due old new (Err (Bad cause)) =
     (due ≡ moving.Bad cause) × (kept_lines new ≡ kept_lines old)
 
+-- the prelude is over
+abbrev pub IsOver : Migrating → Type 0
+IsOver (Moved behind) = Unit {0}
+IsOver m = ⊥
+
 -- a line may be moved: fewer reports were told than its number, and the locks weigh less; it isn't
 -- too long, and nothing is written of it yet
 abbrev pub MayMove : Migrating → ℕ → List ℕ → List ℕ → Type 0

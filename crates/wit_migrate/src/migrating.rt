@@ -8,7 +8,8 @@ ghost use Rattle.wit_model.specs.Trace.Reading.{line_of};
 ghost use Rattle.wit_model.specs.Trace.Moving.{moving_from, moving_outcome, moving_entered};
 ghost use Rattle.wit_model.specs.Trace.Moving as moving;
 ghost use Rattle.wit_migrate.specs.Again.{WritesTheSame};
-ghost use Rattle.wit_migrate.specs.Migrates.{MayMove, HasMoved, MovesAsDue, Migrates, MigratesFrom};
+ghost use Rattle.wit_migrate.specs.Migrates.{IsOver, MayMove, HasMoved, MovesAsDue, Migrates};
+ghost use Rattle.wit_migrate.specs.Migrates.{MigratesFrom};
 ghost use Rattle.wit_migrate.specs.Migrates.{ReachesLine, migrated, moved_to, moving_reports};
 ghost use Rattle.wit_migrate.specs.Migrates.{some_migration, weighed};
 ghost use Rattle.wit_stream.specs.Stream.{IsSpent, ReadsToEnd, WritesFront, WritesLines};
@@ -181,64 +182,23 @@ impl Migrating {
         requires { MayMove self.old number bytes.now text.old.items }
         ensures { IfOk result (HasMoved self.old number bytes.now self.new text.new.items) }
     {
-        self.read_any(alloc, (), number, bytes, begin_line(bytes), text)
-    }
-}
-
-impl LineReader for Migrating {
-    // There is one way to write lines.
-    type View = ();
-
-    ghost may = { λ view m number line text. MayMove m number line text };
-
-    ghost has = { λ view old number line new text step. HasMoved old number line new text step };
-
-    #[inline(always)]
-    fn recent_file(&self) -> Option<&str> {
-        match self {
-            Migrating::Moved(behind) => behind.recent_file(),
-            Migrating::Unmoved | Migrating::Keeping { .. } => None,
-        }
+        self.any_line(alloc, number, bytes, begin_line(bytes), text)
     }
 
-    // It makes its call at once once the prelude is over.
-    #[inline(always)]
-    fn read_on_lock(
-        &mut self,
-        alloc: Global,
-        _view: (),
-        number: u64,
-        bytes: &[u8],
-        line: LockLine<&str>,
-        text: &mut Vec<u8>,
-    ) -> Result<Step, AllocError> {
-        if let Migrating::Moved(behind) = self {
-            let found = behind.summary();
-            let room = mem::replace(text, Vec::new(alloc));
-            return match behind.enter_on_lock(alloc, room, line, bytes) {
-                Ok(told) => {
-                    *text = told;
-                    Ok(Step::Goes)
-                }
-                Err(LineError::Bad(cause)) => {
-                    self.ended_step(alloc, Vec::new(alloc), found, number, cause, text)
-                }
-                Err(LineError::Memory) => Err(AllocError),
-            };
-        }
-        self.read_any(alloc, (), number, bytes, begin_line(bytes), text)
-    }
-
+    // A line of any kind, of which the first word was read.
     #[inline(never)]
-    fn read_any(
+    fn any_line(
         &mut self,
         alloc: Global,
-        _view: (),
         number: u64,
         bytes: &[u8],
         begun: Option<Begun<'_>>,
         text: &mut Vec<u8>,
-    ) -> Result<Step, AllocError> {
+    ) -> Result<Step, AllocError>
+        requires ready { MayMove self.old number bytes.now text.old.items }
+        requires begun { Begins begun (line_of bytes.now) }
+        ensures { IfOk result (HasMoved self.old number bytes.now self.new text.new.items) }
+    {
         let reached = self.reach(alloc, number, bytes)?;
         let found = self.found();
         if let Some((number, cause)) = reached.refused {
@@ -262,6 +222,65 @@ impl LineReader for Migrating {
     }
 }
 
+// It reads lines so once the prelude is over.
+impl LineReader for Migrating {
+    // There is one way to write lines.
+    type View = ();
+
+    ghost may = { λ view m number line text. IsOver m × MayMove m number line text };
+
+    ghost has = { λ view old number line new text step. HasMoved old number line new text step };
+
+    #[inline(always)]
+    fn recent_file(&self) -> Option<&str> {
+        match self {
+            Migrating::Moved(behind) => behind.recent_file(),
+            Migrating::Unmoved | Migrating::Keeping { .. } => None,
+        }
+    }
+
+    // It makes its call at once.
+    #[inline(always)]
+    fn read_on_lock(
+        &mut self,
+        alloc: Global,
+        _view: (),
+        number: u64,
+        bytes: &[u8],
+        line: LockLine<&str>,
+        text: &mut Vec<u8>,
+    ) -> Result<Step, AllocError> {
+        let Migrating::Moved(behind) = self else {
+            unreachable!();
+        };
+        let found = behind.summary();
+        let room = mem::replace(text, Vec::new(alloc));
+        match behind.enter_on_lock(alloc, room, line, bytes) {
+            Ok(told) => {
+                *text = told;
+                Ok(Step::Goes)
+            }
+            Err(LineError::Bad(cause)) => {
+                self.ended_step(alloc, Vec::new(alloc), found, number, cause, text)
+            }
+            Err(LineError::Memory) => Err(AllocError),
+        }
+    }
+
+    #[inline(always)]
+    fn read_any(
+        &mut self,
+        alloc: Global,
+        _view: (),
+        number: u64,
+        bytes: &[u8],
+        begun: Option<Begun<'_>>,
+        text: &mut Vec<u8>,
+    ) -> Result<Step, AllocError> {
+        self.any_line(alloc, number, bytes, begun, text)
+    }
+}
+
 impl Machine for Migrating {
     // There is one way to write lines.
     type View = ();
@@ -279,10 +298,12 @@ impl Machine for Migrating {
         bytes: &[u8],
         text: &mut Vec<u8>,
     ) -> Result<Step, AllocError> {
-        if !matches!(self, Migrating::Moved(_)) {
-            return self.opening_line(alloc, number, bytes, text);
+        match self {
+            Migrating::Moved(_) => read_line(self, alloc, (), number, bytes, text),
+            Migrating::Unmoved | Migrating::Keeping { .. } => {
+                self.opening_line(alloc, number, bytes, text)
+            }
         }
-        read_line(self, alloc, (), number, bytes, text)
     }
 
     fn broken(

@@ -17,7 +17,7 @@ returns-in-Ok c =
       line-goes (standing b) (standing b) c.args.number c.args.bytes.now []
           (record { lines = []; written = refl; on = λ next. refl }) new told
           (line-writes b.verifier b.raw b.remarks c.args.number c.args.bytes.now line new told
-          c.requires.ready.2 c.requires.found c.in-Ok.ensures),
+          c.requires.ready.1.2 c.requires.found c.in-Ok.ensures),
       moved_one b.verifier b.raw b.remarks new c.args.bytes.now told (call_of line) c.in-Ok.ensures,
       moved_weighs b.verifier b.raw b.remarks new c.args.bytes.now told (call_of line)
           c.in-Ok.ensures,

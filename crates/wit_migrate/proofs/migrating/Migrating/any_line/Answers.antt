@@ -6,7 +6,7 @@ use Rattle.wit_stream.specs.declared.summary.Summary.{Summary}
 use Rattle.wit_migrate.proofs.MigrateLemmas.{line-goes, line-bad, ended-moved}
 use Rattle.wit_migrate.proofs.MigrateReports.{written_one}
 use Rattle.wit_migrate.proofs.Weights.{written_weighs}
-use Rattle.wit_migrate.proofs.migrating.MigratingLineReader.read_any.Goals as goal
+use Rattle.wit_migrate.proofs.migrating.Migrating.any_line.Goals as goal
 
 pub returns-in_ok-text-in-Ok : goal.returns-in_ok-text-in-Ok
 returns-in_ok-text-in-Ok c = (
