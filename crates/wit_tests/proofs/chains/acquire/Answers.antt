@@ -1,4 +1,4 @@
-use Rattle.std.proofs.Common.{Option, sym, ◌∙◌, subst, arith}
+use Rattle.std.proofs.Common.{sym, ◌∙◌, subst, arith}
 use Rattle.wit_model.specs.Rules.Chunks.{chain_of}
 use Rattle.wit_held.specs.Chains.{CanRise}
 use Rattle.wit_held.proofs.Recording.{stands-short}
@@ -14,4 +14,4 @@ record-requires-clause-once c =
 
 pub record-requires-clause-shallow : goal.record-requires-clause-shallow
 record-requires-clause-shallow c =
-    subst CanRise (sym c.in-Some.is ∙ c.oldest_held.ensures) c.if-count-lt-DEEPEST.true
+    subst CanRise (sym c.in-Some.is ∙ c.oldest_held.ensures) c.if-held-lt-DEEPEST.true
