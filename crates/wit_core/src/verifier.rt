@@ -1,6 +1,6 @@
 //! The verifier of lock orders.
 
-ghost use Rattle.std.specs.Prelude.{◌≡◌, None, reverse, IfOk, IfErr, IfSome, true};
+ghost use Rattle.std.specs.Prelude.{◌≡◌, None, reverse, IfOk, IfErr, IfSome, Ok, true};
 ghost use Rattle.wit_model.specs.Rules.Names.{is_file_name};
 ghost use Rattle.wit_model.specs.declared.profiles.Profile.TheVariants.{Plain, AllHeld};
 ghost use Rattle.wit_model.specs.Rules.Clean.{CleanMeansNoCircle};
@@ -165,9 +165,11 @@ impl Verifier {
         self.known.file(name)
     }
 
-    /// The name of the file that was named last, which is a file name; `None` before any was.
-    pub fn recent_file(&self) -> Option<&str>
-        ensures { IfSome result (λ name. is_file_name name.now ≡ true) }
+    /// The file that was named last: its number, and its name, which is a file name; `None` before
+    /// any was. To name it again gives this number, and changes nothing.
+    pub fn recent_file(&self) -> Option<(FileNo, &str)>
+        ensures name { IfSome result (λ f. is_file_name f.1.now ≡ true) }
+        ensures number { IfSome result (λ f. NamesFile self.now f.1.now (Ok f.0) self.now) }
     {
         self.known.names().recent_file()
     }

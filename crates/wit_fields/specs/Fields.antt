@@ -1,7 +1,9 @@
 -- What the reader of a field answers.
 use Rattle.std.specs.Prelude.{◌≡◌, ◌≢◌, ℕ, List, Option, Some, None, Result, Ok, Err}
+use Rattle.std.specs.Borrow.{Bor}
 use Rattle.wit_model.specs.declared.faults.Fault.{Fault}
 use Rattle.wit_model.specs.declared.faults.Fault.TheVariants.{OutOfMemory}
+use Rattle.wit_model.specs.declared.locks.FileNo.{FileNo}
 use Rattle.wit_model.specs.declared.lines.Cause.TheVariants.{Syntax}
 use Rattle.wit_model.specs.declared.lines.Cause.TheVariants as why
 use Rattle.wit_model.specs.Trace.Reading.{◌>>=◌, number_of, until}
@@ -27,3 +29,8 @@ leading_number bound bytes =
 abbrev pub RefusesLine : Fault → LineError → Type 0
 RefusesLine fault Memory = fault ≡ OutOfMemory
 RefusesLine fault (Bad cause) = (cause ≡ why.Fault fault) × (fault ≢ OutOfMemory)
+
+-- a file is known, by this name and this number
+abbrev pub IsKnownAs : Option (FileNo × Bor (List ℕ)) → List ℕ → FileNo → Type 0
+IsKnownAs None name number = ⊥
+IsKnownAs (Some known) name number = (known.1.now ≡ name) × (known.0 ≡ number)

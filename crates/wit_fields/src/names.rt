@@ -2,18 +2,18 @@
 //! value and the bytes after it, or `LineError::SYNTAX` where the bytes begin with none;
 //! `LineError::Memory` where a growth was refused.
 
-ghost use Rattle.std.specs.Prelude.{◌≡◌, true, IfSome};
+ghost use Rattle.std.specs.Prelude.{◌≡◌, true, IfOk, IfSome};
 ghost use Rattle.wit_model.specs.Rules.Names.{is_name, is_file_name};
 ghost use Rattle.wit_model.specs.Trace.Reading.{parted_at_last, accepted, site_of, field_at};
 ghost use Rattle.wit_model.specs.Trace.Reading.{leading_quoted, optional, leading_type, whole_list};
-ghost use Rattle.wit_fields.specs.Fields.{Gives};
+ghost use Rattle.wit_fields.specs.Fields.{Gives, IsKnownAs};
 
 use crate::errors::LineError;
 use crate::numbers::number_of;
 use crate::words::{class, long_word, skip, split_before};
 use std::alloc::Global;
 use std::str;
-use wit_model::{Class, FileName, Name, TypeList};
+use wit_model::{Class, FileName, FileNo, Name, TypeList};
 
 /// The bytes before a byte's last place, and those after it.
 #[inline(always)]
@@ -40,27 +40,34 @@ fn name_of(alloc: Global, bytes: &[u8]) -> Result<Name, LineError>
     }
 }
 
-// Most sites name the known file, and aren't tested byte by byte.
+// A file name, with its number where it is the known one: most sites name that, which isn't tested
+// byte by byte.
 #[inline(always)]
-fn file_name_of<'a>(known: Option<&str>, bytes: &'a [u8]) -> Result<&'a str, LineError>
-    requires { IfSome known (λ k. is_file_name k.now ≡ true) }
-    ensures { Gives (λ n. n.now) result (accepted is_file_name bytes.now) }
+fn file_name_of<'a>(
+    known: Option<(FileNo, &str)>,
+    bytes: &'a [u8],
+) -> Result<(&'a str, Option<FileNo>), LineError>
+    requires { IfSome known (λ k. is_file_name k.1.now ≡ true) }
+    ensures value { Gives (λ n. n.0.now) result (accepted is_file_name bytes.now) }
+    ensures known { IfOk result (λ n. IfSome n.1 (IsKnownAs known.entry n.0.now)) }
 {
-    if is_known(known, bytes) {
+    if let Some(number) = known_number(known, bytes) {
         // Safety: a file name is ASCII.
-        return Ok(unsafe { str::from_utf8_unchecked(bytes) });
+        return Ok((unsafe { str::from_utf8_unchecked(bytes) }, Some(number)));
     }
-    any_file_name(bytes)
+    Ok((any_file_name(bytes)?, None))
 }
 
+// The number of the known file, where this is its name.
 #[inline(always)]
-fn is_known(known: Option<&str>, bytes: &[u8]) -> bool
-    requires { IfSome known (λ k. is_file_name k.now ≡ true) }
-    ensures { result ≡ true → is_file_name bytes.now ≡ true }
+fn known_number(known: Option<(FileNo, &str)>, bytes: &[u8]) -> Option<FileNo>
+    requires { IfSome known (λ k. is_file_name k.1.now ≡ true) }
+    ensures name { IfSome result (λ _. is_file_name bytes.now ≡ true) }
+    ensures known { IfSome result (IsKnownAs known.entry bytes.now) }
 {
     match known {
-        Some(known) => known.as_bytes() == bytes,
-        None => false,
+        Some((number, name)) if name.as_bytes() == bytes => Some(number),
+        _ => None,
     }
 }
 
@@ -127,16 +134,21 @@ pub fn list(alloc: Global, bytes: &[u8]) -> Result<TypeList, LineError>
 }
 
 /// A file and a line, 0 to 4,294,967,295, as `FILE:LINE`: the line stands behind the last colon.
-/// The known name is a file name, that of most sites.
+/// The file has its number with it where it is the known one, which most sites name. The known name
+/// is a file name.
 #[tactic(auto, unfolding(wit_model::specs::Trace::Reading::site_of))]
 #[inline(always)]
-pub fn site<'a>(known: Option<&str>, bytes: &'a [u8]) -> Result<(&'a str, u32, &'a [u8]), LineError>
-    requires { IfSome known (λ k. is_file_name k.now ≡ true) }
-    ensures { Gives (λ x. ((x.0.now, x.1), x.2.now)) result (field_at site_of bytes.now) }
+pub fn site<'a>(
+    known: Option<(FileNo, &str)>,
+    bytes: &'a [u8],
+) -> Result<(&'a str, Option<FileNo>, u32, &'a [u8]), LineError>
+    requires { IfSome known (λ k. is_file_name k.1.now ≡ true) }
+    ensures value { Gives (λ x. ((x.0.now, x.2), x.3.now)) result (field_at site_of bytes.now) }
+    ensures known { IfOk result (λ x. IfSome x.1 (IsKnownAs known.entry x.0.now)) }
 {
     let (word, rest) = long_word(bytes)?;
     let (file, line) = split_at_last(b':', word)?;
-    let file = file_name_of(known, file)?;
+    let (file, number) = file_name_of(known, file)?;
     let line = number_of(u32::MAX, line)?;
-    Ok((file, line, rest))
+    Ok((file, number, line, rest))
 }

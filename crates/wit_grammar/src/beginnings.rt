@@ -1,17 +1,16 @@
 //! How a line begins: its first word is read once, whatever the line is.
 
 ghost use Rattle.std.specs.Prelude.{◌≡◌, ◌++◌, Option, IfSome, Some, codes, drop, true};
-ghost use Rattle.wit_model.specs.Rules.Names.{is_file_name};
 ghost use Rattle.wit_model.specs.declared.lines.Keyword.TheVariants.{Check, Unlock, Plain, Take};
 ghost use Rattle.wit_model.specs.declared.lines.Keyword.TheVariants.{Free};
 ghost use Rattle.wit_model.specs.declared.lines.Line.{Line};
 ghost use Rattle.wit_model.specs.declared.lines.Verb.TheVariants.{Note};
-ghost use Rattle.wit_model.specs.Trace.Reading.{fields_of, line_of};
+ghost use Rattle.wit_model.specs.Trace.Reading.{line_of};
 ghost use Rattle.wit_fields.specs.Fields.{Gives};
 ghost use Rattle.wit_grammar.specs.Lines.{GivesIfFound, Begins, as_line};
 
 use crate::keywords::keyword_of;
-use crate::lock_lines::{check, plain, step, try_lock, try_take, unlock};
+use crate::lock_lines::{plain, step, try_lock, try_take};
 use crate::parse::fields;
 use std::alloc::Global;
 use wit_fields::{LineError, words};
@@ -128,9 +127,9 @@ fn is_free(bytes: &[u8]) -> bool
     matches!(bytes, [b'f', b'r', b'e', b'e', b' ', ..])
 }
 
-// The keyword of any line, and the bytes after it.
+/// Reads the first word of a line whose keyword is none of the most frequent ones.
 #[tactic(auto, unfolding(wit_model::specs::Trace::Reading::line_of))]
-fn begin_any(bytes: &[u8]) -> Option<Begun<'_>>
+pub fn begin_any(bytes: &[u8]) -> Option<Begun<'_>>
     ensures { Begins result (line_of bytes.now) }
 {
     let (word, rest) = words::split_before(b' ', bytes);
@@ -140,36 +139,16 @@ fn begin_any(bytes: &[u8]) -> Option<Begun<'_>>
     }
 }
 
-/// The line that begins so, where it is one on a lock, without a copy. `None` says nothing.
-///
-/// The known name is a file name. A line that names that file is read in less time.
+/// The line that begins so, where it is one of the rarer ones on a lock, without a copy. `None` says
+/// nothing.
 #[inline(always)]
-pub fn lock_line<'a>(known: Option<&str>, begun: Option<Begun<'a>>) -> Option<LockLine<&'a str>>
-    requires { IfSome known (λ k. is_file_name k.now ≡ true) }
+pub fn lock_line(begun: Option<Begun<'_>>) -> Option<LockLine<&str>>
     ensures { (read : Option Line) → Begins begun.entry read → GivesIfFound as_line result read }
 {
     let (keyword, rest) = begun?;
     match keyword {
-        Keyword::Check => check(known, rest).ok(),
-        Keyword::Unlock => unlock(rest).ok(),
         Keyword::Plain(verb) => plain(verb, rest).ok(),
-        _ => other_lock_line(known, keyword, rest),
-    }
-}
-
-// The line on a lock that begins with a rarer keyword. By itself, so that the others don't pay for
-// its locals.
-#[inline(never)]
-fn other_lock_line<'a>(
-    known: Option<&str>,
-    keyword: Keyword,
-    rest: &'a [u8],
-) -> Option<LockLine<&'a str>>
-    requires { IfSome known (λ k. is_file_name k.now ≡ true) }
-    ensures { GivesIfFound as_line result (fields_of keyword rest.now) }
-{
-    match keyword {
-        Keyword::Try => try_lock(known, rest).ok(),
+        Keyword::Try => try_lock(rest).ok(),
         Keyword::Take => step(RawStep::Take, rest).ok(),
         Keyword::Free => step(RawStep::Free, rest).ok(),
         Keyword::TryTake => try_take(rest).ok(),

@@ -1,7 +1,6 @@
 //! Lines on a lock, read where they lie.
 
-ghost use Rattle.std.specs.Prelude.{◌≡◌, true, IfOk, IfSome};
-ghost use Rattle.wit_model.specs.Rules.Names.{is_file_name};
+ghost use Rattle.std.specs.Prelude.{◌≡◌, IfOk};
 ghost use Rattle.wit_model.specs.Trace.Reading.{check_of, try_of, unlock_of, plain_of, step_of};
 ghost use Rattle.wit_model.specs.Trace.Reading.{try_take_of};
 ghost use Rattle.wit_model.specs.declared.lines.Line.TheVariants.{OnLock};
@@ -106,22 +105,19 @@ pub fn borrowed(line: &LockLine<FileName>) -> LockLine<&str>
     }
 }
 
-/// What stands behind the word `check`, where the known name is a file name. By itself, so that
-/// shorter lines don't pay for its locals.
+/// What stands behind the word `check`.
 ///
 /// # Errors
 /// `LineError::SYNTAX` where that isn't its fields.
 #[tactic(auto, unfolding(wit_model::specs::Trace::Reading::check_of))]
-#[inline(never)]
-pub fn check<'a>(known: Option<&str>, bytes: &'a [u8]) -> Result<LockLine<&'a str>, LineError>
-    requires { IfSome known (λ k. is_file_name k.now ≡ true) }
+pub fn check(bytes: &[u8]) -> Result<LockLine<&str>, LineError>
     ensures { Gives as_line result (check_of bytes.now) }
 {
     let (seat, rest) = numbers::seat(bytes)?;
     let (lock, rest) = numbers::lock(rest)?;
     let (mode, rest) = words::mode(rest)?;
     let (ops, rest) = words::request_flags(rest)?;
-    let (file, line, rest) = names::site(known, rest)?;
+    let (file, _number, line, rest) = names::site(None, rest)?;
     if !rest.is_empty() {
         return Err(LineError::SYNTAX);
     }
@@ -135,20 +131,19 @@ pub fn check<'a>(known: Option<&str>, bytes: &'a [u8]) -> Result<LockLine<&'a st
     })
 }
 
-/// What stands behind the word `try`, where the known name is a file name.
+/// What stands behind the word `try`.
 ///
 /// # Errors
 /// `LineError::SYNTAX` where that isn't its fields.
 #[tactic(auto, unfolding(wit_model::specs::Trace::Reading::try_of))]
 #[inline(always)]
-pub fn try_lock<'a>(known: Option<&str>, bytes: &'a [u8]) -> Result<LockLine<&'a str>, LineError>
-    requires { IfSome known (λ k. is_file_name k.now ≡ true) }
+pub fn try_lock(bytes: &[u8]) -> Result<LockLine<&str>, LineError>
     ensures { Gives as_line result (try_of bytes.now) }
 {
     let (seat, rest) = numbers::seat(bytes)?;
     let (lock, rest) = numbers::lock(rest)?;
     let (mode, rest) = words::mode(rest)?;
-    let (file, line, rest) = names::site(known, rest)?;
+    let (file, _number, line, rest) = names::site(None, rest)?;
     if !rest.is_empty() {
         return Err(LineError::SYNTAX);
     }

@@ -233,6 +233,14 @@ line-writes s raw m n bytes line new text short reads w = record {
   written = w.written;
 }
 
+-- and what it comes to that is bad
+pub line-fails : (s : Story) (raw : List RawLock) (m n : ℕ) (bytes : List ℕ) (line : Line)
+    (cause : Cause) → length bytes ≤ 4096 → line_of bytes ≡ Some line
+    → moves s raw m bytes (call_of line) ≡ moving.Bad cause
+    → moving_outcome (Moved s raw m) n bytes ≡ moving.Bad cause
+line-fails s raw m n bytes line cause short reads is =
+    rw (le-ltb 4096 (length bytes) short, reads) is
+
 -- the step that ends the migration
 pub ends-follow : (old new : Migrating) (n : ℕ) (line text : List ℕ) (summary : Summary)
     (written : List ℕ) (s : machine.Step)

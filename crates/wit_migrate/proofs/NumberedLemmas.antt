@@ -98,7 +98,7 @@ not-numbered s new raw m bytes c fault (Err e) names refuses =
     (not_numbered s new c fault e names refuses m)) refl
 
 -- it gets one
-moves-numbered : (s mid : Story) (raw : List RawLock) (m : ℕ) (bytes : List ℕ) (c : LineCall)
+pub moves-numbered : (s mid : Story) (raw : List RawLock) (m : ℕ) (bytes : List ℕ) (c : LineCall)
     (f : FileNo) → NumbersFile s (file_named c) (Ok f) mid
     → moves s raw m bytes c ≡ moves mid raw m bytes (at_number c f.0)
 moves-numbered s mid raw m bytes (LogsAt t file call) f names =

@@ -5,6 +5,7 @@ use Rattle.std.specs.Prelude.{if◌then◌else◌}
 use Rattle.std.specs.Global.{Vec}
 use Rattle.wit_model.specs.declared.calls.Call.{Call}
 use Rattle.wit_model.specs.declared.calls.Entry.{Entry}
+use Rattle.wit_model.specs.declared.locks.FileNo.{FileNo}
 use Rattle.wit_model.specs.declared.locks.LockNo.{LockNo}
 use Rattle.wit_model.specs.declared.locks.SeatNo.{SeatNo}
 use Rattle.wit_model.specs.declared.locks.Mode.TheVariants.{Exclusive}
@@ -36,6 +37,7 @@ use Rattle.wit_fields.specs.declared.errors.LineError.TheVariants.{Bad, Memory}
 use Rattle.wit_grammar.specs.declared.parse.TheConstants.{LONGEST}
 use Rattle.wit_world.specs.Steps.{deed_in}
 use Rattle.wit_stream.specs.Machine.{Follows}
+use Rattle.wit_trace.specs.LineCalls.{Keeps}
 use Rattle.wit_trace.specs.Outputs.{summary_of}
 use Rattle.wit_trace.specs.Replays.{prelude_of, total}
 use Rattle.wit_stream.specs.Text.{text_of}
@@ -59,6 +61,14 @@ abbrev pub moved_to : Migrating → Moving
 moved_to Unmoved = moving.Unmoved
 moved_to (Keeping prelude kept) = moving.Keeping (prelude_of prelude) (kept_bytes kept.items)
 moved_to (Moved behind) = standing behind
+
+-- a file has this number, and to name it changes nothing
+abbrev pub names_moving : Moving → List ℕ → FileNo → Type 0
+names_moving (moving.Moved s raw n) file f = Keeps s file f
+names_moving m file f = ⊥
+
+abbrev pub names_file : Migrating → List ℕ → FileNo → Type 0
+names_file m = names_moving (moved_to m)
 
 -- how many reports were told so far
 abbrev pub moving_reports : Moving → ℕ

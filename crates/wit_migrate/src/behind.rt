@@ -8,7 +8,7 @@ ghost use Rattle.wit_model.specs.Trace.Output.{Logs, call_of, summed};
 ghost use Rattle.wit_model.specs.Trace.Reading.{line_of};
 ghost use Rattle.wit_grammar.specs.Lines.{as_line};
 ghost use Rattle.wit_world.specs.Steps.{makes_lock};
-ghost use Rattle.wit_trace.specs.LineCalls.{as_call};
+ghost use Rattle.wit_trace.specs.LineCalls.{Keeps, as_call};
 ghost use Rattle.wit_migrate.specs.Migrates.{IsLineOf, MovesAsDue, moving_reports, standing};
 ghost use Rattle.wit_migrate.specs.Migrates.{weight};
 ghost use Rattle.wit_trace.specs.Replays.{total};
@@ -18,7 +18,7 @@ use crate::texts::line_in;
 use std::alloc::Global;
 use wit_core::Verifier;
 use wit_grammar::LineError;
-use wit_model::{Call, Line, LockLine, SeatNo};
+use wit_model::{Call, FileNo, Line, LockLine, SeatNo};
 use wit_stream::Summary;
 use wit_trace::{
     LineCall, assertion, call_of, file_of, file_on_lock, lock_call, number_of, remark, warning,
@@ -48,10 +48,11 @@ impl Behind {
         }
     }
 
-    /// The name of the file that was named last.
+    /// The file that was named last: its number and its name.
     #[inline(always)]
-    pub fn recent_file(&self) -> Option<&str>
-        ensures { IfSome result (λ name. is_file_name name.now ≡ true) }
+    pub fn recent_file(&self) -> Option<(FileNo, &str)>
+        ensures name { IfSome result (λ f. is_file_name f.1.now ≡ true) }
+        ensures number { IfSome result (λ f. Keeps self.now.verifier f.1.now f.0) }
     {
         self.verifier.recent_file()
     }
@@ -143,9 +144,14 @@ impl Behind {
         }
     }
 
-    // A call that is logged. With one that makes a lock no step of a lock goes.
+    /// A call that is logged is made, and its line written with the step that goes with it, in the
+    /// room of a text that has nothing. With one that makes a lock no step of a lock goes.
+    ///
+    /// # Errors
+    /// `Bad` where the call is refused, or the lock doesn't admit the step that goes with it;
+    /// `Memory`. The call may have been made then.
     #[inline(always)]
-    fn log(
+    pub fn log(
         &mut self,
         room: Vec<u8>,
         seat: SeatNo,

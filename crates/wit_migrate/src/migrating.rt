@@ -11,7 +11,7 @@ ghost use Rattle.wit_migrate.specs.Again.{WritesTheSame};
 ghost use Rattle.wit_migrate.specs.Migrates.{IsOver, MayMove, HasMoved, MovesAsDue, Migrates};
 ghost use Rattle.wit_migrate.specs.Migrates.{MigratesFrom};
 ghost use Rattle.wit_migrate.specs.Migrates.{ReachesLine, migrated, moved_to, moving_reports};
-ghost use Rattle.wit_migrate.specs.Migrates.{some_migration, weighed};
+ghost use Rattle.wit_migrate.specs.Migrates.{names_file, some_migration, weighed};
 ghost use Rattle.wit_stream.specs.Stream.{IsSpent, ReadsToEnd, WritesFront, WritesLines};
 ghost use Rattle.wit_stream.specs.Stream.{WritesOutput};
 
@@ -23,7 +23,7 @@ use std::alloc::{AllocError, Global};
 use std::io::{BufRead, Write};
 use std::mem;
 use wit_grammar::{Begun, LineError, begin_line, finish_line};
-use wit_model::{Cause, Line, LockLine};
+use wit_model::{Call, Cause, FileNo, Line, LockLine, SeatNo};
 use wit_stream::{Failures, Machine, Pace, Ports, ReplayError, Step, Summary, run};
 use wit_trace::{LineReader, Prelude, read_line};
 
@@ -231,11 +231,42 @@ impl LineReader for Migrating {
 
     ghost has = { λ view old number line new text step. HasMoved old number line new text step };
 
+    ghost names = { names_file };
+
     #[inline(always)]
-    fn recent_file(&self) -> Option<&str> {
+    fn recent_file(&self) -> Option<(FileNo, &str)> {
         match self {
             Migrating::Moved(behind) => behind.recent_file(),
             Migrating::Unmoved | Migrating::Keeping { .. } => None,
+        }
+    }
+
+    // It makes its call at once.
+    #[inline(always)]
+    fn read_call(
+        &mut self,
+        alloc: Global,
+        _view: (),
+        number: u64,
+        bytes: &[u8],
+        seat: SeatNo,
+        call: Call,
+        text: &mut Vec<u8>,
+    ) -> Result<Step, AllocError> {
+        let Migrating::Moved(behind) = self else {
+            unreachable!();
+        };
+        let found = behind.summary();
+        let room = mem::replace(text, Vec::new(alloc));
+        match behind.log(room, seat, call, bytes) {
+            Ok(told) => {
+                *text = told;
+                Ok(Step::Goes)
+            }
+            Err(LineError::Bad(cause)) => {
+                self.ended_step(alloc, Vec::new(alloc), found, number, cause, text)
+            }
+            Err(LineError::Memory) => Err(AllocError),
         }
     }
 

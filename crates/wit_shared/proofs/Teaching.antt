@@ -35,9 +35,14 @@ module _ (s : Story) (t : ℕ) (call : Call) (reply : Reply) (teaches : adopted 
   pub wants : (r : Result Reply Fault) → IsErrAnd r (λ e. e ≡ OutOfMemory)
       → AnswersOrFails s t call r s
   wants (Ok told) is = elim is [ ]
-  wants (Err fault) is =
-      (inr (is, subst (λ (r : Result Reply Fault). IsEntered r) (sym answer)
-      (kept call reply teaches)), refl)
+  wants (Err fault) is = (
+    inr (
+      is,
+      subst (λ (r : Result Reply Fault). IsEntered r) (sym answer)
+          (kept call reply teaches),
+    ),
+    refl,
+  )
 
   -- or is made, and all that was adopted then is published
   pub all_published : (new : Story) (r : Result Reply Fault) (p : Published) → AnswersOrFails s t call r new

@@ -42,9 +42,10 @@ impl Table {
         file_at(&self.files, file.0 as usize - 1)
     }
 
-    /// The name of the file that was named last, which most sites repeat; `None` before any was.
-    pub fn recent_file(&self) -> Option<&str>
-        ensures { IfSome result (λ n. is_file_name n.now ≡ true) }
+    /// The file that was named last, which most sites repeat: its number and its name; `None` before
+    /// any was.
+    pub fn recent_file(&self) -> Option<(FileNo, &str)>
+        ensures { IfSome result (λ f. HasFile self.now f.1.now f.0.0) }
     {
         if self.recent.0 == 0 {
             return None;
@@ -52,7 +53,7 @@ impl Table {
         if self.recent.0 as usize > self.files() {
             return None;
         }
-        Some(self.file_name(self.recent))
+        Some((self.recent, self.file_name(self.recent)))
     }
 
     /// The number of a source file: a known file keeps its number, also where the table is full; a

@@ -111,7 +111,10 @@ fn attempted(rt: HostRuntime) -> Result<(), Fail> {
     };
     assert_eq!(rt; adopted(told), Some((TypeNo(1), TypeNo(2))));
     assert_eq!(rt; sizes(&verifier), (5, 0));
-    assert_eq!(rt; adopted(verifier.call(SeatNo(1), call)?), Some((TypeNo(1), TypeNo(2))));
+    assert_eq!(rt;
+        adopted(verifier.call(SeatNo(1), call)?),
+        Some((TypeNo(1), TypeNo(2)))
+    );
     assert_eq!(rt; sizes(&verifier), (6, 1));
     let known = verifier.attempt(SeatNo(2), Call::DefineOrder(LockNo(1), LockNo(2)))?;
     assert!(rt; matches!(known, Attempt::Made(Reply::Known)));

@@ -54,10 +54,10 @@ fn names_of_files(rt: HostRuntime) -> Result<(), Fail> {
     let mut table = Table::new(rt.alloc(), 1, 2)?;
     for (name, answer, recent) in [
         ("a b", Err(Fault::BadName), None),
-        ("f.c", Ok(FileNo(1)), Some("f.c")),
-        ("g.c", Ok(FileNo(2)), Some("g.c")),
-        ("h.c", Err(Fault::FilesFull), Some("g.c")),
-        ("f.c", Ok(FileNo(1)), Some("f.c")),
+        ("f.c", Ok(FileNo(1)), Some((FileNo(1), "f.c"))),
+        ("g.c", Ok(FileNo(2)), Some((FileNo(2), "g.c"))),
+        ("h.c", Err(Fault::FilesFull), Some((FileNo(2), "g.c"))),
+        ("f.c", Ok(FileNo(1)), Some((FileNo(1), "f.c"))),
     ] {
         assert_eq!(rt; file(&mut table, name), answer, "of {name}");
         assert_eq!(rt; table.recent_file(), recent, "after {name}");

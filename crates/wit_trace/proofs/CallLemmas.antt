@@ -1,6 +1,6 @@
 -- What a verifier's call, its step and a file's number leave, where lines drive it.
 use Rattle.std.proofs.Common.{◌≡◌, ℕ, List, Some, Result, Ok, Err}
-use Rattle.std.proofs.Common.{sym, ap, subst, ◌∙◌, ◌⊎◌, inl, inr}
+use Rattle.std.proofs.Common.{sym, ap, subst, ◌⊎◌, inl, inr}
 use Rattle.std.specs.Result.{IsErrAnd}
 use Rattle.wit_model.specs.declared.calls.Call.{Call}
 use Rattle.wit_model.specs.declared.calls.Reply.{Reply}
@@ -15,8 +15,8 @@ use Rattle.wit_model.specs.Trace.Output as output
 use Rattle.wit_fields.specs.Fields.{RefusesLine}
 use Rattle.wit_fields.specs.declared.errors.LineError.{LineError}
 use Rattle.wit_fields.specs.declared.errors.LineError.TheVariants.{Bad, Memory}
-use Rattle.wit_trace.specs.Driven.{Answers, NumbersLine}
-use Rattle.wit_trace.specs.LineCalls.{NumbersFile, at_number, file_named}
+use Rattle.wit_trace.specs.Driven.{Answers, NumbersLine, calls_numbered}
+use Rattle.wit_trace.specs.LineCalls.{NumbersFile, file_named}
 use Rattle.wit_trace.specs.Replays.{FailsFor}
 
 -- a call that was answered
@@ -64,14 +64,6 @@ not_numbered old new (output.LogsAt t file call) fault (Bad cause) names refuses
 not_numbered old new c fault (Bad cause) names refuses n = absurd names
 
 -- its file got one
-calls_numbered : (old mid : Story) (c : output.LineCall) (f : FileNo)
-    → NumbersFile old (file_named c) (Ok f) mid → (n : ℕ)
-    → output.calls old n c ≡ output.calls mid n (at_number c f.0)
-calls_numbered old mid (output.LogsAt t file call) f names n =
-    ap (output.at_file old (λ s f. output.makes s n t (call f)) file) names.0
-    ∙ ap (λ (s : Story). output.makes s n t (call f.0)) (sym names.1)
-calls_numbered old mid c f names n = ap (λ (s : Story). output.calls s n c) (sym names)
-
 module _ (old new : Story) (file : List ℕ) (c : output.LineCall)
     (named : file_named c ≡ Some file) where
   pub line_numbered : (f : FileNo) → NamesFile old file (Ok f) new

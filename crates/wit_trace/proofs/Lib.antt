@@ -1,6 +1,7 @@
 pub mod CallLemmas
 pub mod CountLemmas
 pub mod DrivingLemmas
+pub mod KnownFiles
 pub mod ListedTypes
 pub mod ReplayLemmas
 pub mod ReportLemmas

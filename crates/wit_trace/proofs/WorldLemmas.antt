@@ -1,6 +1,6 @@
 -- What a world's call, its step and a file's number leave, where lines drive it.
 use Rattle.std.proofs.Common.{◌≡◌, ℕ, List, Some, Result, Ok, Err}
-use Rattle.std.proofs.Common.{sym, ap, subst, ◌∙◌, inl, inr}
+use Rattle.std.proofs.Common.{sym, ap, subst, inl, inr}
 use Rattle.std.specs.Result.{IsErrAnd}
 use Rattle.wit_model.specs.declared.faults.Fault.{Fault}
 use Rattle.wit_model.specs.declared.locks.FileNo.{FileNo}
@@ -12,8 +12,8 @@ use Rattle.wit_model.specs.World.Scenes.{Scene}
 use Rattle.wit_fields.specs.declared.errors.LineError.{LineError}
 use Rattle.wit_fields.specs.declared.errors.LineError.TheVariants.{Bad, Memory}
 use Rattle.wit_fields.specs.Fields.{RefusesLine}
-use Rattle.wit_trace.specs.Driven.{NumbersLine}
-use Rattle.wit_trace.specs.LineCalls.{NumbersFile, at_number, file_named}
+use Rattle.wit_trace.specs.Driven.{NumbersLine, calls_in_numbered}
+use Rattle.wit_trace.specs.LineCalls.{NumbersFile, file_named}
 use Rattle.wit_trace.specs.Replays.{FailsFor}
 
 -- a line's file gets no number
@@ -33,17 +33,6 @@ not_numbered old new (output.LogsAt t file call) fault (Bad cause) names refuses
 not_numbered old new c fault (Bad cause) names refuses n = absurd names
 
 -- its file got one
-calls_numbered : (old mid : Scene) (c : output.LineCall) (f : FileNo)
-    → NumbersFile old.story (file_named c) (Ok f) mid.story → mid ≡ record old { story = mid.story }
-    → (n : ℕ) → output.calls_in old n c ≡ output.calls_in mid n (at_number c f.0)
-calls_numbered old mid (output.LogsAt t file call) f names rest n =
-    ap (output.at_file_in old (λ s f. output.makes_in s n t (call f)) file) names.0
-    ∙ ap (λ (s : Scene). output.makes_in s n t (call f.0))
-    (sym (rest ∙ ap (λ (x : Story). record old { story = x }) names.1))
-calls_numbered old mid c f names rest n =
-    ap (λ (s : Scene). output.calls_in s n c)
-    (sym (rest ∙ ap (λ (x : Story). record old { story = x }) names))
-
 module _ (old new : Scene) (file : List ℕ) (c : output.LineCall)
     (named : file_named c ≡ Some file) where
   pub line_numbered : (f : FileNo) → NamesFile old.story file (Ok f) new.story
@@ -51,7 +40,7 @@ module _ (old new : Scene) (file : List ℕ) (c : output.LineCall)
       → NumbersLine (output.calls_in old) (output.calls_in new) (output.Stepping old)
       (output.Stepping new) c (Ok f)
   line_numbered f names rest = (
-    calls_numbered old new c f
+    calls_in_numbered old new c f
         (subst (λ at. NumbersFile old.story at (Ok f) new.story) (sym named) names) rest,
     λ n bad. ap (λ (x : Story). output.summed (output.Reading x n) bad) names.1,
   )

@@ -1,6 +1,7 @@
 -- What lines drive: what should become of a line's call, and how far the reading is then.
-use Rattle.std.specs.Prelude.{ℕ, ◌+◌, ◌≡◌, Bool, List, [], length, Option, None, Result, Ok}
-use Rattle.std.specs.Prelude.{Err, refl}
+use Rattle.std.specs.Prelude.{ℕ, ◌+◌, ◌≡◌, Bool, List, [], length, Option, None, Some, Result}
+use Rattle.std.specs.Prelude.{Ok, Err, refl}
+use Rattle.std.proofs.Common.{sym, ap, ◌∙◌}
 use Rattle.wit_model.specs.declared.calls.Reply.{Reply}
 use Rattle.wit_model.specs.declared.assertions.AssertAnswer.{AssertAnswer}
 use Rattle.wit_model.specs.declared.faults.Fault.{Fault}
@@ -19,7 +20,7 @@ use Rattle.wit_model.specs.Trace.Output as output
 use Rattle.wit_model.specs.World.Scenes.{Scene}
 use Rattle.wit_model.specs.World.Shown.{WaitsIn}
 use Rattle.wit_fields.specs.declared.errors.LineError.{LineError}
-use Rattle.wit_trace.specs.LineCalls.{at_number}
+use Rattle.wit_trace.specs.LineCalls.{HasNumber, Keeps, NumbersFile, at_number, file_named}
 use Rattle.wit_trace.specs.Replays.{FailsFor, KeepsTotal}
 
 -- the file that a line names has this number, with which its call becomes what it should become; or
@@ -71,11 +72,43 @@ pub record Drives (s : Story) (reading : ℕ → output.Progress)
   -- an assertion and a warning are the verifier's
   pub remarks : (m : ℕ) (c : model.LineCall) → IsRemark c
       → due m c ≡ read_at reading (output.calls s m c)
+  -- a line whose file has a number makes its call with that
+  pub numbered : (m : ℕ) (c : model.LineCall) (f : FileNo)
+      → HasNumber (Keeps s) (file_named c) f → due m c ≡ due m (at_number c f.0)
   -- a line that makes no call is bad
   pub none : (m : ℕ) → due m model.NoCall ≡ output.Bad why.Syntax
   -- what a view shows at the end
   pub last : (view : View) (m : ℕ) (text : List ℕ) (circle : Bool)
       → output.IsViewOf view s waits text circle → output.IsLast view (reading m) None text circle
+
+-- ---- the file of a line gets its number
+
+-- where lines drive a verifier
+pub calls_numbered : (old mid : Story) (c : model.LineCall) (f : FileNo)
+    → NumbersFile old (file_named c) (Ok f) mid → (n : ℕ)
+    → output.calls old n c ≡ output.calls mid n (at_number c f.0)
+calls_numbered old mid (model.LogsAt t file call) f names n =
+    ap (output.at_file old (λ s f. output.makes s n t (call f)) file) names.0
+    ∙ ap (λ (s : Story). output.makes s n t (call f.0)) (sym names.1)
+calls_numbered old mid c f names n = ap (λ (s : Story). output.calls s n c) (sym names)
+
+-- and where they drive a world
+pub calls_in_numbered : (old mid : Scene) (c : model.LineCall) (f : FileNo)
+    → NumbersFile old.story (file_named c) (Ok f) mid.story → mid ≡ record old { story = mid.story }
+    → (n : ℕ) → output.calls_in old n c ≡ output.calls_in mid n (at_number c f.0)
+calls_in_numbered old mid (model.LogsAt t file call) f names rest n =
+    ap (output.at_file_in old (λ s f. output.makes_in s n t (call f)) file) names.0
+    ∙ ap (λ (s : Scene). output.makes_in s n t (call f.0))
+    (sym (rest ∙ ap (λ (x : Story). record old { story = x }) names.1))
+calls_in_numbered old mid c f names rest n =
+    ap (λ (s : Scene). output.calls_in s n c)
+    (sym (rest ∙ ap (λ (x : Story). record old { story = x }) names))
+
+-- a file that has its number is named, and nothing changes
+pub named_again : (s : Story) (file : Option (List ℕ)) (f : FileNo)
+    → HasNumber (Keeps s) file f → NumbersFile s file (Ok f) s
+named_again s (Some file) f has = has
+named_again s None f has = refl
 
 -- ---- a verifier, and a world
 
@@ -108,6 +141,7 @@ drives_verifier s = record {
   ends = λ m n. refl;
   sums = λ m bad. refl;
   remarks = remark_at s;
+  numbered = λ m c f has. calls_numbered s s c f (named_again s (file_named c) f has) m;
   none = λ m. refl;
   last = λ view m text circle is. is;
 }
@@ -139,6 +173,8 @@ drives_world s = record {
   ends = λ m n. refl;
   sums = λ m bad. refl;
   remarks = remark_in s;
+  numbered = λ m c f has.
+      calls_in_numbered s s c f (named_again s.story (file_named c) f has) refl m;
   none = λ m. refl;
   last = λ view m text circle is. is;
 }

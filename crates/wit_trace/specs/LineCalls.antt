@@ -4,7 +4,10 @@ use Rattle.wit_model.specs.declared.faults.Fault.{Fault}
 use Rattle.wit_model.specs.declared.locks.FileNo.{FileNo}
 use Rattle.wit_model.specs.Rules.Files.{NamesFile}
 use Rattle.wit_model.specs.Rules.State.{Story}
+use Rattle.wit_model.specs.declared.calls.Call.{Call}
+use Rattle.wit_model.specs.declared.lines.Line.{Line}
 use Rattle.wit_model.specs.Trace.LineCalls as model
+use Rattle.wit_model.specs.Trace.Reading.{line_of}
 use Rattle.wit_trace.specs.declared.replaying.line_calls.LineCall.{LineCall}
 use Rattle.wit_trace.specs.declared.replaying.line_calls.LineCall.TheVariants.{Logs, Asserts, Warns}
 use Rattle.wit_trace.specs.declared.replaying.line_calls.LineCall.TheVariants.{Steps, NoCall}
@@ -32,3 +35,21 @@ abbrev pub NumbersFile : Story → Option (List ℕ) → Result FileNo Fault →
 NumbersFile old (Some file) answer new = NamesFile old file answer new
 NumbersFile old None (Ok f) new = new ≡ old
 NumbersFile old None (Err fault) new = ⊥
+
+-- the file that a line names, if it names one, has this number
+abbrev pub HasNumber : (List ℕ → FileNo → Type 0) → Option (List ℕ) → FileNo → Type 0
+HasNumber names (Some file) f = names file f
+HasNumber names None f = Unit {0}
+
+-- a line has t make this call, with the number that its file has
+pub record Makes (names : List ℕ → FileNo → Type 0) (bytes : List ℕ) (t : ℕ)
+    (call : Call) : Type 0 where
+  pub line : Line
+  pub found : line_of bytes ≡ Some line
+  pub file : FileNo
+  pub numbered : HasNumber names (file_named (model.call_of line)) file
+  pub is : at_number (model.call_of line) file.0 ≡ model.Logs t call
+
+-- to name this file gives this number, and changes nothing
+abbrev pub Keeps : Story → List ℕ → FileNo → Type 0
+Keeps s file f = NamesFile s file (Ok f) s

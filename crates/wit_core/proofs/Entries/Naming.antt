@@ -1,17 +1,21 @@
 -- A file that is named.
 use Rattle.std.proofs.Common.{◌≡◌, ℕ, Bool, true, false, cond, List, [], ◌∷◌, ◌++◌, Option, None}
 use Rattle.std.proofs.Common.{Some, IfSome, Ok, Err, Result, IfOk, IfErr, OnOk, OnErr, length, sym}
-use Rattle.std.proofs.Common.{ap, subst}
+use Rattle.std.proofs.Common.{ap, refl, subst}
+use Rattle.std.specs.Borrow.{Bor}
 use Rattle.wit_model.specs.declared.faults.Fault.{Fault}
 use Rattle.wit_model.specs.declared.faults.Fault.TheVariants.{OutOfMemory}
 use Rattle.wit_model.specs.declared.locks.FileNo.{FileNo}
 use Rattle.wit_model.specs.declared.calls.Entry.{Entry}
 use Rattle.wit_model.specs.declared.sizes.TheConstants.Limits.{MOST_FILES}
 use Rattle.wit_model.specs.Rules.Refusals.{IsRefusal}
-use Rattle.wit_model.specs.Rules.Files.{is_known_file, file_answer, files_after, NamesFile}
-use Rattle.wit_model.specs.Rules.State.{Start, State}
+use Rattle.wit_model.specs.Rules.Files.{is_known_file, file_answer, file_number, files_after}
+use Rattle.wit_model.specs.Rules.Files.{NamesFile}
+use Rattle.wit_model.specs.Rules.Names.{is_file_name}
+use Rattle.wit_model.specs.Rules.State.{Start, State, Story}
 use Rattle.wit_model.specs.Rules.Step.{answer_of, story_after, IsLegal}
 use Rattle.wit_model.proofs.Histories.NamedFiles.{answer-named, legal-named}
+use Rattle.wit_table.specs.Known.{HasFile, Names}
 use Rattle.wit_core.specs.declared.verifier.Verifier.TheInside.{Inside}
 use Rattle.wit_core.specs.Plans.{planned_call}
 use Rattle.wit_core.specs.declared.ready.Ready.{Ready}
@@ -34,6 +38,21 @@ file_named v name (Ok f) new ok entered err absent same =
     (ok, ap (λ n. story_in (with_known v n)) entered)
 file_named v name (Err fault) new ok entered err absent same =
     (err, absent, ap (λ n. story_in (with_known v n)) same)
+
+-- a file that is known is named again, and nothing changes
+named_again : (s : Story) (files : List (List ℕ)) (name : List ℕ) (f : FileNo) → files ≡ s.files
+    → is_file_name name ≡ true → is_known_file name files ≡ true → file_number name files ≡ f.0
+    → NamesFile s name (Ok f) s
+named_again s files name f same good known number =
+    subst (λ (fs : List (List ℕ)). NamesFile (record s { files = fs }) name (Ok f)
+    (record s { files = fs })) same (rw (good, known, number) refl, rw known refl)
+
+pub recent_again : (s : Story) (names : Names) (o : Option (FileNo × Bor (List ℕ)))
+    → names.files ≡ s.files → IfSome o (λ f. HasFile names f.1.now f.0.0)
+    → IfSome o (λ f. NamesFile s f.1.now (Ok f.0) s)
+recent_again s names None same has = tt
+recent_again s names (Some f) same has =
+    named_again s names.files f.1.now f.0 same has.1 has.2 has.3
 
 -- a naming that is accepted leaves the history legal
 files_legal : (start : Start) (h : List Entry) (old : List (List ℕ)) (name : List ℕ)

@@ -104,11 +104,7 @@ impl Verifier {
     }
 
     // Checks a request that teaches no orders, and prepares one that does.
-    pub(crate) fn attempt_check(
-        &mut self,
-        seat: SeatNo,
-        request: Request,
-    ) -> Result<Attempt, Fault>
+    pub(crate) fn attempt_check(&mut self, seat: SeatNo, request: Request) -> Result<Attempt, Fault>
         ensures { Attempts self.old seat.0 (Check request) result self.new }
     {
         let verdict = self.judge(seat, request)?;

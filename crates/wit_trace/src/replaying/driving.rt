@@ -7,7 +7,7 @@ ghost use Rattle.wit_model.specs.Trace.LineCalls.{call_of};
 ghost use Rattle.wit_grammar.specs.Lines.{Begins, as_line};
 ghost use Rattle.wit_model.specs.declared.lines.Line.{Line};
 ghost use Rattle.wit_model.specs.Trace.Output.{read_as};
-ghost use Rattle.wit_trace.specs.LineCalls.{as_call, file_named};
+ghost use Rattle.wit_trace.specs.LineCalls.{Keeps, as_call, file_named};
 ghost use Rattle.wit_trace.specs.Driven.{NumbersLine};
 ghost use Rattle.wit_trace.specs.Replays.{GoesAsDue, IsRead, MayReadAt, reports_told};
 
@@ -163,9 +163,31 @@ impl<D: Driven> LineReader for Driving<D> {
         (D.reading old.driven old.remarks) number line (D.reading new.driven new.remarks)
         text step };
 
+    ghost names = { λ d. Keeps (D.story d.driven) };
+
     #[inline(always)]
-    fn recent_file(&self) -> Option<&str> {
+    fn recent_file(&self) -> Option<(FileNo, &str)> {
         self.driven.verifier().recent_file()
+    }
+
+    #[inline(always)]
+    fn read_call(
+        &mut self,
+        alloc: Global,
+        view: View,
+        number: u64,
+        _bytes: &[u8],
+        seat: SeatNo,
+        call: Call,
+        text: &mut Vec<u8>,
+    ) -> Result<Step, AllocError> {
+        match self.log(alloc, seat, call) {
+            Ok(told) => {
+                show(alloc, view, told, text);
+                Ok(Step::Goes)
+            }
+            Err(error) => self.ended_step(alloc, number, error, text),
+        }
     }
 
     #[inline(always)]

@@ -3,24 +3,28 @@
 
 ghost use Rattle.std.specs.Prelude.{◌≡◌, ℕ, List, true, IfOk, IfSome, Some};
 ghost use Rattle.wit_model.specs.Rules.Names.{is_file_name};
-ghost use Rattle.wit_model.specs.declared.lines.Keyword.TheVariants.{Check, Unlock, Plain, Take};
-ghost use Rattle.wit_model.specs.declared.lines.Keyword.TheVariants.{Free};
+ghost use Rattle.wit_model.specs.declared.lines.Keyword.TheVariants as keyword;
+ghost use Rattle.wit_model.specs.declared.lines.Line.TheVariants.{OnLock};
+ghost use Rattle.wit_model.specs.declared.lines.LockLine.TheVariants.{Check};
 ghost use Rattle.wit_model.specs.declared.lines.Verb.TheVariants.{Note};
+ghost use Rattle.wit_model.specs.declared.locks.FileNo.{FileNo};
 ghost use Rattle.wit_model.specs.Trace.Reading.{line_of};
 ghost use Rattle.wit_grammar.specs.Lines.{Begins, as_line};
 ghost use Rattle.wit_stream.specs.declared.machine.Step.{Step};
+ghost use Rattle.wit_trace.specs.LineCalls.{Makes};
 
 use std::alloc::{AllocError, Global};
 use wit_grammar::{
-    Begun, begin_line, behind_check, behind_free, behind_lock, behind_take, behind_unlock,
-    free_fields, lock_line, note_fields, take_fields, unlock_fields,
+    Begun, CheckFields, begin_any, behind_check, behind_free, behind_lock, behind_take,
+    behind_unlock, check_fields, free_fields, lock_line, note_fields, take_fields, unlock_fields,
 };
-use wit_model::{Keyword, LockLine, RawStep, Verb};
+use wit_model::{Call, FileNo, Keyword, LockLine, RawStep, Request, SeatNo, Site, Verb};
 use wit_stream::Step;
 
 /// What reads whole lines once the prelude is over. `may by x number line text` says that it may
 /// read this line, of which this text was told so far; `has by old number line new text step` that
-/// it did.
+/// it did. `names x file number` says that a file has this number, and that to name it changes
+/// nothing.
 pub trait LineReader {
     /// By what it shows what it reads.
     type View: Copy;
@@ -29,9 +33,30 @@ pub trait LineReader {
 
     ghost has: { Self.View → Self → ℕ → List ℕ → Self → List ℕ → Step → Type 0 };
 
-    /// The name of the file that was named last, which most sites name.
-    fn recent_file(&self) -> Option<&str>
-        ensures { IfSome result (λ name. is_file_name name.now ≡ true) };
+    ghost names: { Self → List ℕ → FileNo → Type 0 };
+
+    /// The file that was named last, which most sites name: its number and its name.
+    fn recent_file(&self) -> Option<(FileNo, &str)>
+        ensures name { IfSome result (λ f. is_file_name f.1.now ≡ true) }
+        ensures number { IfSome result (λ f. names self.now f.1.now f.0) };
+
+    /// A line that makes this call, which is logged.
+    ///
+    /// # Errors
+    /// Want of memory alone.
+    fn read_call(
+        &mut self,
+        alloc: Global,
+        view: Self::View,
+        number: u64,
+        bytes: &[u8],
+        seat: SeatNo,
+        call: Call,
+        text: &mut Vec<u8>,
+    ) -> Result<Step, AllocError>
+        requires ready { may view self.old number bytes.now text.old.items }
+        requires found { Makes (names self.old) bytes.now seat.0 call }
+        ensures { IfOk result (has view self.old number bytes.now self.new text.new.items) };
 
     /// A line on a lock.
     ///
@@ -93,7 +118,7 @@ pub fn read_line<R: LineReader>(
     if let Some(rest) = behind_check(bytes) {
         return check_line(reader, alloc, view, number, bytes, rest, text);
     }
-    other_line(reader, alloc, view, number, bytes, begin_line(bytes), text)
+    other_line(reader, alloc, view, number, bytes, begin_any(bytes), text)
 }
 
 /// Reads a line of the second version, whose frequent lines are steps of locks too.
@@ -133,14 +158,55 @@ fn check_line<R: LineReader>(
     text: &mut Vec<u8>,
 ) -> Result<Step, AllocError>
     requires ready { R.may view reader.old number bytes.now text.old.items }
-    requires begun { Begins (Some (Check, rest)) (line_of bytes.now) }
+    requires begun { Begins (Some (keyword.Check, rest)) (line_of bytes.now) }
     ensures { IfOk result (R.has view reader.old number bytes.now reader.new text.new.items) }
 {
-    let begun = Some((Keyword::Check, rest));
-    match lock_line(reader.recent_file(), begun) {
-        Some(line) => reader.read_on_lock(alloc, view, number, bytes, line, text),
-        None => reader.read_any(alloc, view, number, bytes, begun, text),
-    }
+    let Some(fields) = check_fields(reader.recent_file(), rest) else {
+        let begun = Some((Keyword::Check, rest));
+        return reader.read_any(alloc, view, number, bytes, begun, text);
+    };
+    let Some(file) = fields.number else {
+        return check_elsewhere(reader, alloc, view, number, bytes, fields, text);
+    };
+    let site = Site {
+        file,
+        line: fields.line,
+    };
+    let request = Request {
+        lock: fields.lock,
+        site,
+        mode: fields.mode,
+        ops: fields.ops,
+    };
+    let call = Call::Check(request);
+    reader.read_call(alloc, view, number, bytes, fields.seat, call, text)
+}
+
+// A check in another file than the last one.
+#[inline(never)]
+fn check_elsewhere<R: LineReader>(
+    reader: &mut R,
+    alloc: Global,
+    view: R::View,
+    number: u64,
+    bytes: &[u8],
+    fields: CheckFields<'_>,
+    text: &mut Vec<u8>,
+) -> Result<Step, AllocError>
+    requires ready { R.may view reader.old number bytes.now text.old.items }
+    requires found { line_of bytes.now ≡ Some (OnLock (Check fields.seat fields.lock fields.mode
+        fields.ops fields.file.now fields.line)) }
+    ensures { IfOk result (R.has view reader.old number bytes.now reader.new text.new.items) }
+{
+    let line = LockLine::Check {
+        seat: fields.seat,
+        lock: fields.lock,
+        mode: fields.mode,
+        ops: fields.ops,
+        file: fields.file,
+        line: fields.line,
+    };
+    reader.read_on_lock(alloc, view, number, bytes, line, text)
 }
 
 // A line that begins with `unlock`.
@@ -155,15 +221,15 @@ fn unlock_line<R: LineReader>(
     text: &mut Vec<u8>,
 ) -> Result<Step, AllocError>
     requires ready { R.may view reader.old number bytes.now text.old.items }
-    requires begun { Begins (Some (Unlock, rest)) (line_of bytes.now) }
+    requires begun { Begins (Some (keyword.Unlock, rest)) (line_of bytes.now) }
     ensures { IfOk result (R.has view reader.old number bytes.now reader.new text.new.items) }
 {
     let Some((seat, lock, mode)) = unlock_fields(rest) else {
         let begun = Some((Keyword::Unlock, rest));
         return reader.read_any(alloc, view, number, bytes, begun, text);
     };
-    let line = LockLine::Unlock { seat, lock, mode };
-    reader.read_on_lock(alloc, view, number, bytes, line, text)
+    let call = Call::Unlock(lock, mode);
+    reader.read_call(alloc, view, number, bytes, seat, call, text)
 }
 
 // A line that begins with `lock`.
@@ -178,16 +244,14 @@ fn note_line<R: LineReader>(
     text: &mut Vec<u8>,
 ) -> Result<Step, AllocError>
     requires ready { R.may view reader.old number bytes.now text.old.items }
-    requires begun { Begins (Some (Plain Note, rest)) (line_of bytes.now) }
+    requires begun { Begins (Some (keyword.Plain Note, rest)) (line_of bytes.now) }
     ensures { IfOk result (R.has view reader.old number bytes.now reader.new text.new.items) }
 {
-    let verb = Verb::Note;
     let Some((seat, lock)) = note_fields(rest) else {
-        let begun = Some((Keyword::Plain(verb), rest));
+        let begun = Some((Keyword::Plain(Verb::Note), rest));
         return reader.read_any(alloc, view, number, bytes, begun, text);
     };
-    let line = LockLine::Plain { verb, seat, lock };
-    reader.read_on_lock(alloc, view, number, bytes, line, text)
+    reader.read_call(alloc, view, number, bytes, seat, Call::Note(lock), text)
 }
 
 // A line that begins with `take`.
@@ -202,7 +266,7 @@ fn take_line<R: LineReader>(
     text: &mut Vec<u8>,
 ) -> Result<Step, AllocError>
     requires ready { R.may view reader.old number bytes.now text.old.items }
-    requires begun { Begins (Some (Take, rest)) (line_of bytes.now) }
+    requires begun { Begins (Some (keyword.Take, rest)) (line_of bytes.now) }
     ensures { IfOk result (R.has view reader.old number bytes.now reader.new text.new.items) }
 {
     let Some((seat, lock)) = take_fields(rest) else {
@@ -226,7 +290,7 @@ fn free_line<R: LineReader>(
     text: &mut Vec<u8>,
 ) -> Result<Step, AllocError>
     requires ready { R.may view reader.old number bytes.now text.old.items }
-    requires begun { Begins (Some (Free, rest)) (line_of bytes.now) }
+    requires begun { Begins (Some (keyword.Free, rest)) (line_of bytes.now) }
     ensures { IfOk result (R.has view reader.old number bytes.now reader.new text.new.items) }
 {
     let Some((seat, lock)) = free_fields(rest) else {
@@ -253,7 +317,7 @@ fn other_line<R: LineReader>(
     requires begun { Begins begun (line_of bytes.now) }
     ensures { IfOk result (R.has view reader.old number bytes.now reader.new text.new.items) }
 {
-    match lock_line(None, begun) {
+    match lock_line(begun) {
         Some(line) => reader.read_on_lock(alloc, view, number, bytes, line, text),
         None => reader.read_any(alloc, view, number, bytes, begun, text),
     }
