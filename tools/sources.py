@@ -22,7 +22,7 @@ KINDS = [
     ("forget", r".*(?:mem::(?:\{.*)?forget|ManuallyDrop|[.:]leak\(|into_raw)"),
 ]
 # Programs may give up a gate's ticket and a seat; who hands them out, but for their tests, may not.
-KEEPERS = re.compile(r"wit_(?:gates|locks|seats|shared)/src/(?!.*tests\.rt$)")
+KEEPERS = re.compile(r"wit_(?:gates|locks|seats|shared)/src/(?!tests(?:\.rt$|/))")
 GIVEN_UP = r"(?!pub fn ).*(?:[.:]abandon|abandon_all) *\("
 
 
