@@ -183,7 +183,7 @@ fn check_line<R: LineReader>(
 }
 
 // A check in another file than the last one.
-#[inline(never)]
+#[inline(always)]
 fn check_elsewhere<R: LineReader>(
     reader: &mut R,
     alloc: Global,
