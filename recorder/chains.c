@@ -33,7 +33,7 @@ bool chains_made(void)
 
 void node_set_requested(uint32_t node, bool whole)
 {
-    if (node != NODE_UNKNOWN)
+    if (node_is_there(node))
         atomic_fetch_or_explicit(&nodes[node - 1].requested, whole ? REQUESTED : HALF_REQUESTED, memory_order_release);
 }
 
@@ -188,7 +188,7 @@ static void consider(struct request *request)
     }
     request->parent = last_node(request->thread);
     request->node = node_of(request->parent, request->lock->type->number);
-    bool known = request->node != 0 && node_is_requested(request->node);
+    bool known = node_is_requested(request->node);
     if (!known)
         request->stack = stack_of(request->caller);
     if (!known || writes_all)
