@@ -33,7 +33,7 @@ bool chains_made(void)
 
 void node_set_requested(uint32_t node, bool whole)
 {
-    if (node != NODE_UNKNOWN)
+    if (node_is_there(node))
         atomic_fetch_or_explicit(&nodes[node - 1].requested, whole ? REQUESTED : HALF_REQUESTED, memory_order_release);
 }
 
@@ -188,7 +188,7 @@ static void consider(struct request *request)
     }
     request->parent = last_node(request->thread);
     request->node = node_of(request->parent, request->lock->type->number);
-    bool known = request->node != 0 && node_is_requested(request->node);
+    bool known = node_is_requested(request->node);
     if (!known)
         request->stack = stack_of(request->caller);
     if (!known || writes_all)
@@ -362,15 +362,26 @@ void request_ends(struct request *request, bool got)
         aside(got ? got_aside : refused_aside, request);
 }
 
+/* What was acquired after it was acquired under it. */
+static void mark_under(struct thread *thread, const struct held *held)
+{
+    for (struct held *later = thread->held + thread->count; --later > held;) {
+        later->under = held->lock->serial;
+        later->has_under = 1;
+    }
+}
+
 static void released(struct thread *thread, struct held *held)
 {
     bool whole = held->count == 1;
     if (held->written)
         write_unlock(thread, held, whole);
-    if (whole)
+    if (whole) {
+        mark_under(thread, held);
         take_out(thread, held);
-    else
+    } else {
         held->count--;
+    }
 }
 
 static COLD void released_by_another(struct thread *thread, struct lock *lock, struct caller caller)
@@ -482,7 +493,7 @@ void chains_forked(void)
         struct held *held = &thread->held[i];
         held->written = 0;
         held->node = 0;
-        held->moved = 0;
+        held->moved = held->has_under = 0;
         held->before_fork = 1;
     }
 }

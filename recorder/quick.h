@@ -45,15 +45,21 @@ static inline uint32_t node_of(uint32_t parent, uint32_t type)
     }
 }
 
+/* Whether it stands for a chain: it was looked for, and the tree had room. */
+static inline bool node_is_there(uint32_t node)
+{
+    return node - 1 < NODES;
+}
+
 static inline bool node_is_requested(uint32_t node)
 {
-    return node != NODE_UNKNOWN
+    return node_is_there(node)
         && (atomic_load_explicit(&nodes[node - 1].requested, memory_order_acquire) & REQUESTED);
 }
 
 static inline bool node_is_half_requested(uint32_t node)
 {
-    return node != NODE_UNKNOWN
+    return node_is_there(node)
         && (atomic_load_explicit(&nodes[node - 1].requested, memory_order_acquire) & (HALF_REQUESTED | REQUESTED))
             == HALF_REQUESTED;
 }

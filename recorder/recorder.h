@@ -173,7 +173,8 @@ struct held {
     union {
         struct {
             uint32_t count; /* acquisitions not yet released */
-            uint8_t mode : 4;
+            uint8_t mode : 3;
+            uint8_t has_under : 1;   /* `under` is a lock's: that one was held when this was acquired, and released first */
             uint8_t moved : 1;       /* what was held just before it when it was asked for was released */
             uint8_t tried : 1;
             uint8_t after_try : 1;   /* an order between what is held up to it may not be known */
@@ -186,6 +187,7 @@ struct held {
     uint32_t place;
     uint32_t number[STREAMS];
     uint32_t node;    /* of the chain up to this lock; 0 where it wasn't looked for */
+    uint32_t under;   /* the serial number of the lock that was released last before it */
 };
 /* What `how` is of a lock that was acquired once, in that mode, and isn't written; and its bit `after_try`. */
 #define HOW_ONCE(mode) ((uint64_t)(mode) << 32 | 1)
@@ -572,6 +574,7 @@ void threads_forked(void);
 bool singles_made(void);
 void singles_forked(void);
 void order_noted(struct request *request); /* before the real call, of a thread that holds something */
+bool order_is_under(const struct held *held, const struct request *request);
 void order_of_joined(pthread_t joined);    /* this thread has joined it */
 
 /* errors.c */

@@ -11,7 +11,8 @@
  *
  * When something was is told by how many threads had been made and joined before. A lock is three words: its number in
  * the trace, 0 where it has none; its serial number, which no other lock has; and its mode, with a `t` where it was tried,
- * an `l` where it is asked for with a time limit, and a `w` where it is asked for again as a wait for a condition ends.
+ * an `l` where it is asked for with a time limit, and a `w` where it is asked for again as a wait for a condition ends. A held
+ * lock has a `u` where it was acquired while the lock was held that is asked for now.
  *
  * A chain of locks is told of when it is first asked for, and when a second thread does so. As long as one thread has
  * asked for it alone, it is told of again (`r` after the last mode) when that thread has made another one in between. All
@@ -31,8 +32,9 @@ enum { LIVES = 256 };
 
 /* What parts the orders by requests with a time limit from those without. */
 #define FOR_A_TIME 0x5bd1e9955bd1e995u
-/* And those as a wait for a condition ends. */
+/* And those as a wait for a condition ends; and those by which held locks were acquired under what is asked for. */
 #define AS_A_WAIT_ENDS 0x2545f4914f6cdd1du
+#define UNDER_IT 0xd6e8feb86659fd93u
 
 struct order *single_orders;
 static struct life {
@@ -156,13 +158,24 @@ static COLD void note(struct request *request, uint64_t locks)
     recorder_leaves();
 }
 
+bool order_is_under(const struct held *held, const struct request *request)
+{
+    return held->has_under && held->under == request->lock->serial;
+}
+
+/* What parts it from orders of the same locks that are made in another way. */
+static uint64_t way_of(const struct request *request)
+{
+    const struct thread *thread = request->thread;
+    uint64_t under = 0;
+    for (uint32_t i = 0; i < thread->count; i++)
+        under = under << 1 | order_is_under(&thread->held[i], request);
+    return under * UNDER_IT ^ (request->ends_wait ? AS_A_WAIT_ENDS : request->timed ? FOR_A_TIME : 0);
+}
+
 void order_noted(struct request *request)
 {
-    uint64_t locks = locks_with(locks_held(request->thread), request->lock, request->mode);
-    if (request->timed)
-        locks ^= FOR_A_TIME;
-    if (request->ends_wait)
-        locks ^= AS_A_WAIT_ENDS;
+    uint64_t locks = locks_with(locks_held(request->thread), request->lock, request->mode) ^ way_of(request);
     if (request->node == NODE_UNKNOWN)
         note_end();
     else if (!order_is_known(locks, request->thread->serial))

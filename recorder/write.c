@@ -518,8 +518,11 @@ void write_order(struct request *request, enum order_line line)
             put_number(stream, (uint64_t)syscall(SYS_gettid));
             put_number(stream, atomic_load(&threads_made_and_joined));
         }
-        for (uint32_t i = first; i < thread->count; i++)
-            put_lock(stream, thread, thread->held[i].lock, thread->held[i].mode, thread->held[i].tried ? "t" : "");
+        for (uint32_t i = first; i < thread->count; i++) {
+            const struct held *held = &thread->held[i];
+            put_lock(stream, thread, held->lock, held->mode, held->tried ? "t" : "");
+            put_text(stream, order_is_under(held, request) ? "u" : "");
+        }
         put_lock(stream, thread, request->lock, request->mode, request->ends_wait ? "w" : request->timed ? "l" : "");
         put_text(stream, line == ORDER_AGAIN ? "r\n" : "\n");
         stream_append(stream, false);

@@ -143,7 +143,7 @@ case $chosen in
         cp -R "$top/recorder" recorder && rm -rf recorder/out && WITNESS="$program" recorder/record -- true
         touch "$lib/libwitness.so.1" && cp -p "$lib/libwitness.so.1" recorder/out/recorder.so
         # Some of the programs become another user.
-        chmod 711 . && mkdir live lanes && chmod 1777 live && ln -s "$top/tools" tools
+        chmod 711 . && mkdir live lanes && chmod 1777 live && ln -s "$top/tools" "$top/examples" "$top/crates" .
         export WITNESS="$program" WITNESS_LOG="$work/live/%p"
         recorder/test/run --names | grep -vx dropped | sort -u |
             xargs -P "${LANES:-4}" -n 1 sh -c 'recorder/test/run "$1" >"lanes/$1" 2>&1' sh

@@ -33,7 +33,8 @@ static void write_mildness(FILE *to, const struct alarm *alarm)
                                         [APART_BY_MAKING] = "one thread did so before it made the other",
                                         [APART_AT_FIRST] = "both were done before there was another thread",
                                         [APART_ONE_AT_FIRST] = "one was done before there was another thread",
-                                        [APART_BY_WAITS] = "each one had its lock when its wait for a condition began"};
+                                        [APART_BY_WAITS] = "each one had its lock when its wait for a condition began",
+                                        [APART_BY_LOCK] = "one took its lock under the one that the other kept in its wait"};
     if (alarm->gate)
         fprintf(to, "; gate: each time \"%s\" was held", alarm->gate);
     if (alarm->readers)

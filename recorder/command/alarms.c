@@ -156,6 +156,17 @@ static enum apart apart_of(const struct search *search, const struct single_orde
     return apart_at_first(search, one, other);
 }
 
+/*
+ * Whether the one's thread waits at no time at which the other's does, whatever the threads are. It asks for its lock again
+ * as a wait for a condition ends, so it had it when that began. Only after that the other's thread can have taken that lock,
+ * and it did so under the one that it asks for. But that one is held by the one's thread since before its wait.
+ */
+static bool is_kept_out(const struct single_order *one, const struct single_order *other)
+{
+    const struct single_lock *wanted = held(other, asked(one)->serial), *kept = held(one, asked(other)->serial);
+    return asked(one)->ends_wait && wanted && wanted->under && kept && !kept->shared;
+}
+
 /* What keeps two of the circle's orders from meeting. One thread can't wait in two of them. */
 static void look_at_pair(const struct search *search, struct alarm *alarm, const struct circle *circle, size_t k, size_t l)
 {
@@ -165,6 +176,8 @@ static void look_at_pair(const struct search *search, struct alarm *alarm, const
         alarm->gate = gate;
     if (alarm->apart == NOT_APART)
         alarm->apart = apart_of(search, one, other);
+    if (alarm->apart == NOT_APART && (is_kept_out(one, other) || is_kept_out(other, one)))
+        alarm->apart = APART_BY_LOCK;
     if (one->thread != other->thread)
         return;
     alarm->repeated++;
@@ -191,6 +204,8 @@ static struct alarm alarm_of_circle(const struct search *search)
 {
     struct circle circle = shortest(search);
     struct alarm alarm = {.grade = GRADE_THREADS, .orders = circle.orders, .steps = search->types};
+    if (all_end_waits(&circle))
+        alarm.apart = APART_BY_WAITS;
     memcpy(alarm.order, circle.order, sizeof circle.order);
     for (size_t k = 0; k < circle.orders; k++) {
         const struct single_lock *waits = asked(circle.order[k]);
@@ -200,8 +215,6 @@ static struct alarm alarm_of_circle(const struct search *search)
         for (size_t other = 0; other < k; other++)
             look_at_pair(search, &alarm, &circle, other, k);
     }
-    if (alarm.apart == NOT_APART && all_end_waits(&circle))
-        alarm.apart = APART_BY_WAITS;
     return alarm;
 }
 

@@ -35,6 +35,7 @@ struct alarm {
         APART_AT_FIRST,  /* both orders were made when there was no other thread, and not again */
         APART_ONE_AT_FIRST, /* one of them was, whoever made the other */
         APART_BY_WAITS, /* each asks as a wait for a condition ends, so it had its lock when that began */
+        APART_BY_LOCK,  /* one asks so, and kept the lock under which the other took its own */
     } apart;
 };
 

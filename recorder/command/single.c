@@ -28,9 +28,10 @@ static bool read_lock(const char **at, const char *end, struct single_lock *lock
     lock->serial = (uint32_t)serial;
     const char *how = *at + 1;
     lock->shared = *how == 's';
-    for (lock->timed = lock->ends_wait = false; how < end && *how != ' '; how++) {
+    for (lock->timed = lock->ends_wait = lock->under = false; how < end && *how != ' '; how++) {
         lock->timed |= *how == 'l';
         lock->ends_wait |= *how == 'w';
+        lock->under |= *how == 'u';
         *again |= *how == 'r';
     }
     *at = how;
@@ -149,13 +150,18 @@ bool single_is_before(const struct single *single, const struct single_order *on
     return false;
 }
 
+static bool is_alike(const struct single_lock *one, const struct single_lock *other)
+{
+    return one->serial == other->serial && one->shared == other->shared && one->timed == other->timed
+        && one->ends_wait == other->ends_wait && one->under == other->under;
+}
+
 bool single_are_alike(const struct single_order *one, const struct single_order *other)
 {
     if (one->locks != other->locks)
         return false;
     for (size_t i = 0; i < one->locks; i++)
-        if (one->lock[i].serial != other->lock[i].serial || one->lock[i].shared != other->lock[i].shared
-            || one->lock[i].timed != other->lock[i].timed || one->lock[i].ends_wait != other->lock[i].ends_wait)
+        if (!is_alike(&one->lock[i], &other->lock[i]))
             return false;
     return true;
 }

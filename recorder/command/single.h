@@ -14,6 +14,7 @@ struct single_lock {
     uint32_t number, serial;
     bool shared, timed;
     bool ends_wait; /* it is asked for again as a wait for a condition ends */
+    bool under;     /* it was acquired while the lock was held that is asked for */
 };
 
 /* The last lock was asked for by the thread while it held the others, oldest first. */
@@ -58,7 +59,7 @@ void single_end(struct single *single);
  */
 bool single_is_before(const struct single *single, const struct single_order *one, const struct single_order *other);
 
-/* Whether both are orders of the same locks, in the same modes, that are asked for in the same way. */
+/* Whether both are orders of the same locks, in the same modes, that were made in the same way. */
 bool single_are_alike(const struct single_order *one, const struct single_order *other);
 
 /*

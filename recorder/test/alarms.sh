@@ -37,6 +37,8 @@ if wanted alarms; then
     alarm twice 'all orders of the circle, the same locks, threads N and M, of which N took two orders'
     alarm waits 'both orders, the same locks, threads N and M; apart: each one had its lock when its wait for a condition began'
     alarm woken 'both orders, the same locks, threads N and M'
+    alarm under 'both orders, the same locks, threads N and M; apart: one took its lock under the one that the other kept in its wait'
+    alarm not-under 'both orders, the same locks, threads N and M'
     alarm twins 'both orders, the same locks, threads N and M'
     alarm row 'one order only for any two locks: types alone'
     counts 9 locks ''
@@ -61,6 +63,8 @@ if wanted alarms; then
     counts 9 waits threads
     counts 0 waits threads,apart
     counts 9 woken threads,apart
+    counts 0 under threads,apart
+    counts 9 not-under threads,apart
     counts 9 twins ''
     counts 0 row ''
     counts 9 row all

@@ -214,6 +214,28 @@ static void *take_and_wait(void *argument)
     return NULL;
 }
 
+/* Takes the second lock under the first one, which it asks for again; and then, with a gate, under nothing. */
+static void *take_under(void *argument)
+{
+    struct both *both = argument;
+    sem_wait(&took);
+    pthread_mutex_lock(both->first);
+    pthread_mutex_lock(both->second);
+    for (int i = 0; i < 2; i++) {
+        pthread_mutex_unlock(both->first);
+        pthread_mutex_lock(both->first);
+    }
+    pthread_mutex_unlock(both->first);
+    if (both->gate) {
+        pthread_mutex_unlock(both->second);
+        pthread_mutex_lock(both->second);
+        pthread_mutex_lock(both->first);
+        pthread_mutex_unlock(both->first);
+    }
+    pthread_mutex_unlock(both->second);
+    return NULL;
+}
+
 static void *take_after_wait(void *argument)
 {
     struct both *both = argument;
@@ -293,6 +315,10 @@ int main(int count, char **words)
         try_waits(take_and_wait, &there, &back);
     if (strcmp(how, "woken") == 0)
         try_waits(take_after_wait, &there, &back);
+    if (strcmp(how, "under") == 0 || strcmp(how, "not-under") == 0) {
+        back.gate = how[0] == 'n' ? bank() : NULL;
+        try_waits(take_under, &there, &back);
+    }
     if (strcmp(how, "twins") == 0)
         run_two(take_both, take_both, (struct both){a, other, NULL}, (struct both){other, a, NULL});
     /* The second order comes when it is asked for. */
