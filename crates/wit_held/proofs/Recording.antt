@@ -3,7 +3,6 @@ use Rattle.std.proofs.Common.{◌≡◌, ℕ, ◌-◌, ◌<◌, ◌≤◌, Bool,
 use Rattle.std.proofs.Common.{List, [], ◌∷◌, length, map, find, position, set, get_or, Option, None}
 use Rattle.std.proofs.Common.{Some, is_some, unwrap_or, refl, ap, sym, ◌∙◌, arith}
 use Rattle.std.specs.List.{remove}
-use Rattle.std.specs.Option.{option_map}
 use Rattle.std.proofs.lemmas.Bool.{lt-ltb, le-ltb, true≢false, ltb-true, ltb-false}
 use Rattle.std.proofs.lemmas.List.{set-get_or}
 use Rattle.wit_model.specs.declared.locks.Instance.{Instance}
@@ -13,7 +12,7 @@ use Rattle.wit_model.specs.Rules.Groups.{tidied, left, edited_at, replaced_at, r
 use Rattle.wit_model.specs.Rules.Chunks.{Chunks, groups_of, chain_of, set_groups, is_refused}
 use Rattle.wit_held.specs.Chains.{stands, at_lock, is_other, change_lock, recursed, fewer, in_mode}
 use Rattle.wit_held.specs.Chains.{recorded, recorded_by, forgotten_by, is_unrecorded, IsOnce}
-use Rattle.wit_held.specs.Chains.{CanRise, after_record, after_forget, after_turn}
+use Rattle.wit_held.specs.Chains.{after_record, after_forget, after_turn}
 use Rattle.wit_held.proofs.HeldLock.{lock_place, found-stands, find-found, find-missed}
 use Rattle.wit_held.proofs.HeldLock.{missed-stands, absent-all, change-absent, replaced-once}
 use Rattle.wit_held.proofs.HeldLock.{removed-once}
