@@ -124,8 +124,26 @@ void single_end(struct single *single)
     memset(single, 0, sizeof *single);
 }
 
+/* Whether the kernel gave the number to a second thread: two lives of it then disagree. */
+static bool is_reused(const struct single *single, long thread)
+{
+    const struct single_life *first = NULL;
+    for (size_t i = 0; i < single->lives; i++) {
+        const struct single_life *life = &single->life[i];
+        if (life->thread != thread)
+            continue;
+        if (first && (life->maker != first->maker || life->made_at != first->made_at))
+            return true;
+        first = life;
+    }
+    return false;
+}
+
+/* The thread's life; NULL where none is told of, or of two threads with that number. */
 static const struct single_life *life_of(const struct single *single, long thread)
 {
+    if (is_reused(single, thread))
+        return NULL;
     for (size_t i = 0; i < single->lives; i++)
         if (single->life[i].thread == thread)
             return &single->life[i];
@@ -134,9 +152,11 @@ static const struct single_life *life_of(const struct single *single, long threa
 
 bool single_is_before(const struct single *single, const struct single_order *one, const struct single_order *other)
 {
+    if (is_reused(single, one->thread) || is_reused(single, other->thread))
+        return false;
     for (size_t i = 0; i < single->joins; i++) {
         const struct single_join *join = &single->join[i];
-        if (join->thread != one->thread)
+        if (join->thread != one->thread || is_reused(single, join->by))
             continue;
         if (join->by == other->thread && join->at < other->at)
             return true;
@@ -180,7 +200,7 @@ static unsigned long last_told(const struct single *single, const struct single_
 bool single_is_early(const struct single *single, const struct single_order *one, const struct single_order *other)
 {
     unsigned long last = last_told(single, one);
-    if (single->lost > 0 || last >= ORDER_TELLINGS - 1)
+    if (single->lost > 0 || last >= ORDER_TELLINGS - 1 || is_reused(single, one->thread))
         return false;
     size_t steps = 0;
     for (const struct single_life *life = life_of(single, other->thread); life && steps <= single->lives; steps++) {

@@ -8,6 +8,16 @@ alarm() {
     tell alarms "of $1" $?
 }
 
+# reused HOW WANTED: the same of a recording in which the kernel gave each number to a second thread, made later.
+reused() {
+    rm -rf records && mkdir records
+    RECORDER_FRAMES=8 RECORDER_DIRECTORY=$work/records LD_PRELOAD=$recorder/out/recorder.so ./single "$1"
+    sed 's/^life \([0-9]*\) \([0-9]*\) [0-9]*$/&\nlife \1 \2 9/' records/*.0 >reused && mv reused records/9.0
+    RECORD_FRAMES=8 "$record" --show records/9.0 2>&1 | sed -n 's/threads [0-9]* and [0-9]*/threads N and M/; /^single locks: /p' >below
+    echo "single locks: $2" | diff - below
+    tell alarms "of $1, where numbers were given twice" $?
+}
+
 # counts STATUS HOW WORDS: the status of `single HOW` with --alarms WORDS.
 counts() {
     "$record" --error-exitcode 9 --depth 1 ${3:+--alarms "$3"} -- ./single "$2" 2>recorded.err
@@ -41,6 +51,8 @@ if wanted alarms; then
     alarm not-under 'both orders, the same locks, threads N and M'
     alarm twins 'both orders, the same locks, threads N and M'
     alarm row 'one order only for any two locks: types alone'
+    reused apart 'both orders, the same locks, threads N and M'
+    reused early 'both orders, the same locks, threads N and M; apart: one was done before there was another thread'
     counts 9 locks ''
     counts 9 types ''
     counts 0 types locks
