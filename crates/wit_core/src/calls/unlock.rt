@@ -4,7 +4,6 @@ ghost use Rattle.std.specs.Prelude.{◌≡◌, true};
 ghost use Rattle.wit_model.specs.declared.calls.Call.TheVariants.{Unlock};
 ghost use Rattle.wit_model.specs.Rules.State.{state_of, is_seat};
 ghost use Rattle.wit_model.specs.Rules.Step.{Answers, before_naming};
-ghost use Rattle.wit_held.specs.Releases.{release_reply};
 ghost use Rattle.wit_core.specs.Replies.{Admits};
 
 use crate::ready::let_go;
@@ -25,24 +24,20 @@ impl Verifier {
         ensures { Answers self.old seat.0 (Unlock lock mode) result self.new }
     {
         self.before_naming(seat, lock)?;
-        if self.release(seat, lock, mode)? {
-            Ok(Reply::Unlocked)
-        } else {
-            Ok(Reply::Ignored)
-        }
+        self.release(seat, lock, mode)
     }
 
-    // Records a release that nothing before it refuses: false where it is passed over. The lock is
-    // looked for once.
-    fn release(&mut self, seat: SeatNo, lock: LockNo, mode: Mode) -> Result<bool, Fault>
+    // Records a release that nothing before it refuses, or passes it over. The lock is looked for
+    // once.
+    fn release(&mut self, seat: SeatNo, lock: LockNo, mode: Mode) -> Result<Reply, Fault>
         requires seat { is_seat (state_of self.old) seat.0 ≡ true }
         requires admitted { Admits (before_naming (state_of self.old) seat.0 lock.0) }
-        ensures { Answers self.old seat.0 (Unlock lock mode) (release_reply result) self.new }
+        ensures { Answers self.old seat.0 (Unlock lock mode) result self.new }
     {
         let spin = self.class_of_lock(lock).is_spin();
         let watch = self.watch();
         if !self.seats.release(seat, spin, lock, mode, watch)? {
-            return Ok(false);
+            return Ok(Reply::Ignored);
         }
         let entry = Entry {
             seat,
@@ -51,6 +46,6 @@ impl Verifier {
         };
         let_go(&mut self.ready);
         self.log.push_owed(entry, 0);
-        Ok(true)
+        Ok(Reply::Unlocked)
     }
 }
