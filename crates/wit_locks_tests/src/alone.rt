@@ -1,21 +1,16 @@
 //! What the calls of a lock ask of its gate, by one thread.
 
 use crate::fakes::{Counted, Counts, Shut};
-use crate::tokens::{
-    granted, kept, let_go, not_granted, not_released, refused, shut, taken, tried,
-};
-use crate::verifiers::{
-    a_mutex, a_seat, a_site, closed, closed_by_all, pair_of, run_with, run_within,
-};
-use bitflags::Flags;
+use crate::tokens::{let_go, not_granted, taken, tried};
+use crate::verifiers::{a_mutex, a_seat, a_site, closed, run_with, run_within};
 use std::alloc::Global;
 use std::process::Abort;
 use std::sync::Wait;
 use std::test::Fail;
 use wit_core::Verifier;
 use wit_gates::{CondGate, Gate, SpinGate};
-use wit_locks::{Mtx, Rw, abandon};
-use wit_model::{Call, Entry, Fault, Limits, LockFlags, Mode, Site};
+use wit_locks::{Mtx, abandon};
+use wit_model::{Call, Entry, Fault, Limits, Site};
 use wit_shared::{Observer, Program, Room, Seat, Shared};
 
 /// A mutex that is held is asked for again: how many entries the log has then.

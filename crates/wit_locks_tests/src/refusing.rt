@@ -1,22 +1,17 @@
 //! A refused release, and a refused downgrade, leave the gate as it is.
 
-use crate::fakes::{Counted, Counts, Shut};
-use crate::tokens::{
-    granted, kept, let_go, not_granted, not_released, refused, shut, taken, tried,
-};
-use crate::verifiers::{
-    a_mutex, a_seat, a_site, closed, closed_by_all, pair_of, run_with, run_within,
-};
+use crate::fakes::{Counted, Counts};
+use crate::tokens::{granted, kept, let_go, not_released, refused, shut, taken};
+use crate::verifiers::{a_mutex, a_seat, a_site, closed, closed_by_all, pair_of, run_with};
 use bitflags::Flags;
 use std::alloc::Global;
 use std::process::Abort;
 use std::sync::Wait;
 use std::test::Fail;
-use wit_core::Verifier;
-use wit_gates::{CondGate, Gate, SpinGate};
-use wit_locks::{Mtx, Rw, abandon};
-use wit_model::{Call, Entry, Fault, Limits, LockFlags, Mode, Site};
-use wit_shared::{Observer, Program, Room, Seat, Shared};
+use wit_gates::CondGate;
+use wit_locks::{Rw, abandon};
+use wit_model::{Fault, LockFlags, Mode};
+use wit_shared::{Observer, Program, Room, Shared};
 
 /// A release that is refused: that of a mutex that is marked.
 #[derive(Drop)]
