@@ -12,12 +12,13 @@ use Rattle.wit_fields.specs.declared.errors.LineError.{LineError}
 use Rattle.wit_fields.specs.declared.errors.LineError.TheVariants.{Bad, Memory}
 use Rattle.wit_fields.specs.Fields.{Gives}
 use Rattle.wit_grammar.specs.Lines.{IsWhy}
+use Rattle.wit_grammar.specs.declared.parse.TheConstants.{LONGEST}
 
 abbrev Reads : List ℕ → Result Line LineError → Type 0
 Reads bytes r = Gives (λ l. l) r (line_of bytes)
 
-pub found : (bytes : List ℕ) (r : Result Line LineError) → Reads bytes r → length bytes ≤ 4096
-    → IfOk r (λ line. Spells bytes line × (length bytes ≤ 4096))
+pub found : (bytes : List ℕ) (r : Result Line LineError) → Reads bytes r → length bytes ≤ LONGEST
+    → IfOk r (λ line. Spells bytes line × (length bytes ≤ LONGEST))
 found bytes (Ok line) given small = (line_takes bytes line given, small)
 found bytes (Err e) given small = tt
 
@@ -26,7 +27,7 @@ pub only : (bytes : List ℕ) (r : Result Line LineError) (line : Line) → Read
 only bytes r line given spells =
     subst (λ (o : Option Line). Gives (λ l. l) r o) (spelled_again bytes line spells) given
 
-pub why : (bytes : List ℕ) (r : Result Line LineError) → Reads bytes r → length bytes ≤ 4096
+pub why : (bytes : List ℕ) (r : Result Line LineError) → Reads bytes r → length bytes ≤ LONGEST
     → IfErr r (IsWhy bytes)
 why bytes (Ok line) given small = tt
 why bytes (Err Memory) given small = tt

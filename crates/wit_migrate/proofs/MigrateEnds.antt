@@ -28,12 +28,13 @@ use Rattle.wit_migrate.specs.declared.migrating.Migrating.{Migrating}
 use Rattle.wit_migrate.specs.declared.migrating.Migrating.TheVariants as kept
 use Rattle.wit_stream.specs.declared.summary.Summary.{Summary}
 use Rattle.wit_migrate.proofs.MigrateLemmas.{behind, bad-migrated, refused-migrated, next_of}
+use Rattle.wit_grammar.specs.declared.parse.TheConstants.{LONGEST}
 
 -- ---- where the input breaks off
 
 -- the beginning of a long line decides whether it ends the prelude
 begins-reached : (m : Moving) (n : ℕ) (bytes line : List ℕ) (next : Moving → Written)
-    → 4096 < length bytes → StartsWith line bytes
+    → LONGEST < length bytes → StartsWith line bytes
     → moving_reached m n line next ≡ moving_reached m n bytes next
 begins-reached Unmoved n bytes line next long starts = refl
 begins-reached (Keeping p kept) n bytes line next long starts =
@@ -70,7 +71,7 @@ from-first m n (line ∷ lines) tail = refl
 
 -- an unfinished line is bad
 ends-some : (q : Moving) (n : ℕ) (tail : List ℕ) (cause : Cause) → 0 < length tail
-    → cond (nat_lt 4096 (length tail)) why.Long why.Cut ≡ cause
+    → cond (nat_lt LONGEST (length tail)) why.Long why.Cut ≡ cause
     → moving_ends q n tail ≡ moving_ends_bad q (n, cause)
 ends-some q n [] cause some is = absurd (omega arith)
 ends-some Unmoved n (b ∷ tail) cause some is = ap (λ (c : Cause). moving_ends_bad Unmoved (n, c)) is
@@ -86,18 +87,18 @@ comes-bad q n why.Long bytes [] tail h =
     let more = starts-le bytes tail h.1 in
     let long = h.0 in
     ends-some q n tail why.Long (omega (arith, more, long))
-    (ap (λ b. cond b why.Long why.Cut) (lt-ltb 4096 (length tail) (omega (arith, more, long))))
+    (ap (λ b. cond b why.Long why.Cut) (lt-ltb LONGEST (length tail) (omega (arith, more, long))))
 comes-bad q n why.Long bytes (line ∷ lines) tail h =
     let more = starts-le bytes line h.1 in
     let long = h.0 in
     ap (λ b. moving_after q n (cond b (moving.Bad why.Long)
     (moving_read_as q n line (line_of line))) (λ r. moving_from r (n + 1) lines tail))
-    (lt-ltb 4096 (length line) (omega (arith, more, long)))
+    (lt-ltb LONGEST (length line) (omega (arith, more, long)))
 comes-bad q n why.Cut bytes lines tail h =
     ap (λ (ls : List (List ℕ)). comes n ls tail q) h.2
     ∙ (ap (λ t. moving_ends q n t) h.3
     ∙ ends-some q n bytes why.Cut h.0
-    (ap (λ b. cond b why.Long why.Cut) (le-ltb 4096 (length bytes) h.1)))
+    (ap (λ b. cond b why.Long why.Cut) (le-ltb LONGEST (length bytes) h.1)))
 comes-bad q n why.Syntax bytes lines tail h = elim h [ ]
 comes-bad q n why.Version bytes lines tail h = elim h [ ]
 comes-bad q n why.Limit bytes lines tail h = elim h [ ]

@@ -19,15 +19,16 @@ use Rattle.wit_stream.specs.declared.machine.Step.{Step}
 use Rattle.wit_stream.specs.declared.machine.Step.TheVariants.{Goes, Ends}
 use Rattle.wit_stream.specs.declared.summary.Summary.{Summary}
 use Rattle.wit_stream.proofs.TextLemmas.{text_of-line, text_of-tail, first_of-line}
+use Rattle.wit_grammar.specs.declared.parse.TheConstants.{LONGEST}
 
 -- a line of more than 4,096 bytes breaks the text off
-pub breaks_long : (line bytes : List ℕ) → HasNoFeed line → 4096 < length line
+pub breaks_long : (line bytes : List ℕ) → HasNoFeed line → LONGEST < length line
     → BreaksAt Long line (text_of (line ++ bytes)).lines (text_of (line ++ bytes)).tail
 breaks_long line bytes plain long =
     (long, rw (first_of-line line bytes plain) (take-append_seam line _))
 
 -- so does a line at the end of the input
-pub breaks_cut : (line : List ℕ) → HasNoFeed line → 0 < length line → length line ≤ 4096
+pub breaks_cut : (line : List ℕ) → HasNoFeed line → 0 < length line → length line ≤ LONGEST
     → BreaksAt Cut line (text_of line).lines (text_of line).tail
 breaks_cut line plain some short =
     let e : text_of line ≡ _ = text_of-tail line plain in
@@ -36,7 +37,7 @@ breaks_cut line plain some short =
 -- a line that the input ends in
 pub cut_output : {E : Type 0} {M : Type 0} (allows : M → ℕ → List (List ℕ) → List ℕ → List ℕ
     → Summary → Type 0) (m : M) (number : ℕ) (line : List ℕ) (answer : Result (Vec ℕ × Summary) E)
-    → HasNoFeed line → 0 < length line → length line ≤ 4096
+    → HasNoFeed line → 0 < length line → length line ≤ LONGEST
     → IfOk answer (λ r. (lines : List (List ℕ)) (tail : List ℕ) → BreaksAt Cut line lines tail
     → allows m number lines tail r.0.items r.1)
     → IfOk answer (λ r. OutputFrom allows m number line r.0.items r.1)
@@ -89,7 +90,7 @@ module _ {M : Type 0} (allows : M → ℕ → List (List ℕ) → List ℕ → L
   pub advances_line : (shown : List ℕ) (len within : ℕ) (text : List ℕ) (step : Step)
       → Consumes r r' (take (len + 1) shown) → len < length (take within shown)
       → HasNoFeed (take len (take within shown)) → get_or (take within shown) len 0 ≡ 10
-      → HasNoFeed line → length line + len ≤ 4096 → line' ≡ []
+      → HasNoFeed line → length line + len ≤ LONGEST → line' ≡ []
       → Follows allows old new number (line ++ take len shown) text step
       → Advances (OutputFrom allows) old new number r r' line line' text (Some step)
   advances_line shown len within text step taken less plain_seen feed plain short none follows =
@@ -104,7 +105,7 @@ module _ {M : Type 0} (allows : M → ℕ → List (List ℕ) → List ℕ → L
       (omega (arith, short, length-take len shown)) follows
     where
       go : (rest : List ℕ) (s : Step) → Consumes r r' (rest ++ 10 ∷ []) → HasNoFeed rest
-          → length line + length rest ≤ 4096 → Follows allows old new number (line ++ rest) text s
+          → length line + length rest ≤ LONGEST → Follows allows old new number (line ++ rest) text s
           → Advances (OutputFrom allows) old new number r r' line line' text (Some s)
       go rest Goes took plain_rest fits h = record {
         rest = rest;
@@ -140,7 +141,7 @@ module _ {M : Type 0} (allows : M → ℕ → List (List ℕ) → List ℕ → L
 
   -- the reader was at its end
   pub advances_end : (text : List ℕ) (summary : Summary) → IsInput r [] → Keeps r r'
-      → HasNoFeed line → length line ≤ 4096
+      → HasNoFeed line → length line ≤ LONGEST
       → OutputFrom allows old number line text summary
       → Advances (OutputFrom allows) old new number r r' line line' text (Some (Ends summary))
   advances_end text summary all kept plain short h = record {

@@ -22,6 +22,7 @@ use Rattle.wit_stream.specs.Machine.{Follows}
 use Rattle.wit_trace.specs.declared.replaying.Replaying.{Replaying}
 use Rattle.wit_trace.proofs.ReportLemmas.{ended_one, told_one}
 use Rattle.wit_trace.proofs.WrittenLemmas.{if_ok, line_ends, line_told}
+use Rattle.wit_grammar.specs.declared.parse.TheConstants.{LONGEST}
 
 -- an error that is passed on
 pub passed : (due : output.Outcome) (old new : output.Progress) (e : LineError)
@@ -56,11 +57,11 @@ module _ (s : Story) (reading : ℕ → output.Progress) (due : ℕ → model.Li
     (waits : ℕ → ℕ → Type 0) (drives : Drives s reading due waits) where
   -- a line on a lock is read as what it is
   pub call_read : (m n : ℕ) (bytes : List ℕ) (line : Line) (q : output.Progress)
-      (r : Result (Vec ℕ) LineError) → length bytes ≤ 4096 → line_of bytes ≡ Some line
+      (r : Result (Vec ℕ) LineError) → length bytes ≤ LONGEST → line_of bytes ≡ Some line
       → GoesAsDue (due m (model.call_of line)) (reading m) q r
       → GoesAsDue (output.outcome (reading m) n bytes) (reading m) q r
   call_read m n bytes line q r short reads passes =
-      rw (le-ltb 4096 (length bytes) short, reads)
+      rw (le-ltb LONGEST (length bytes) short, reads)
       (subst (λ w. GoesAsDue w (reading m) q r) (sym (drives.enters m n line)) passes)
 
   remark_read : (w : output.Outcome) (told : ℕ) (text : Vec ℕ) → w ≡ output.remarks s told text.items

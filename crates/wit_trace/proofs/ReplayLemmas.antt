@@ -23,16 +23,17 @@ use Rattle.wit_trace.specs.declared.replaying.Progress.{Progress}
 use Rattle.wit_trace.specs.declared.replaying.Progress.TheVariants.{Unstarted}
 use Rattle.wit_stream.specs.declared.summary.Summary.{Summary}
 use Rattle.wit_trace.proofs.WrittenLemmas.{bad_written, refused, refused_at_end}
+use Rattle.wit_grammar.specs.declared.parse.TheConstants.{LONGEST}
 
 -- the beginning of a long line decides whether it ends the prelude
-pub begins_prelude : (bytes line : List ℕ) → 4096 < length bytes → StartsWith line bytes
+pub begins_prelude : (bytes line : List ℕ) → LONGEST < length bytes → StartsWith line bytes
     → output.is_prelude line ≡ output.is_prelude bytes
 begins_prelude bytes line long starts =
     ap (λ (w : List ℕ). bytes_eq w (codes "order ") || bytes_eq w (codes "bless "))
     (sym (take-take 6 (length bytes) line (omega arith)) ∙ ap (take 6) starts)
 
 -- and no long line names a profile
-pub no_profile : (n : ℕ) (line : List ℕ) → 4096 < length line → output.is_profile n line ≡ false
+pub no_profile : (n : ℕ) (line : List ℕ) → LONGEST < length line → output.is_profile n line ≡ false
 no_profile n line long =
     rw (is_false (bytes_eq line (codes "profile all"))
     (λ is. omega (arith, ap length ((bytes_eq-Decides line (codes "profile all")).0 is))))
@@ -50,7 +51,7 @@ pub starts-le : (bytes line : List ℕ) → StartsWith line bytes → length byt
 starts-le bytes line starts = let e : length (take (length bytes) line) ≡ length bytes =
     ap length starts in omega (arith, length-take {A = ℕ})
 
-begins_reached : (p : output.Progress) (n : ℕ) (bytes line : List ℕ) → 4096 < length bytes
+begins_reached : (p : output.Progress) (n : ℕ) (bytes line : List ℕ) → LONGEST < length bytes
     → StartsWith line bytes → output.reached p n line ≡ output.reached p n bytes
 begins_reached output.Unstarted n bytes line long starts = refl
 begins_reached (output.Opening o) n bytes line long starts =
@@ -77,7 +78,7 @@ first_reached p n (why.Fault fault) bytes lines tail h = elim h [ ]
 
 -- an unfinished line is bad
 ends_some : (p : output.Progress) (n : ℕ) (tail : List ℕ) (cause : Cause) → 0 < length tail
-    → cond (ltb 4096 (length tail)) why.Long why.Cut ≡ cause
+    → cond (ltb LONGEST (length tail)) why.Long why.Cut ≡ cause
     → output.ends p n tail ≡ output.ends_bad p (n, cause)
 ends_some p n [] cause some is = absurd (omega arith)
 ends_some output.Unstarted n (b ∷ tail) cause some is =
@@ -95,24 +96,24 @@ broken_output : (from p : output.Progress) (n : ℕ) (cause : Cause) (bytes : Li
     → BreaksAt cause bytes lines tail
     → output.course_from from n lines tail ≡ output.ends_bad p (n, cause)
 broken_output from p n why.Long bytes [] tail stands h =
-    let long : 4096 < length tail = omega (arith, starts-le bytes tail h.1, h.0) in
+    let long : LONGEST < length tail = omega (arith, starts-le bytes tail h.1, h.0) in
     ap (λ (due : Result output.Progress output.BadLine). output.course_at from due
     (λ q. output.ends q n tail)) (first_reached from n why.Long bytes [] tail h ∙ stands)
-    ∙ ends_some p n tail why.Long (omega arith) (rw (lt-ltb 4096 (length tail) long) refl)
+    ∙ ends_some p n tail why.Long (omega arith) (rw (lt-ltb LONGEST (length tail) long) refl)
 broken_output from p n why.Long bytes (line ∷ lines) tail stands h =
-    let long : 4096 < length line = omega (arith, starts-le bytes line h.1, h.0) in
+    let long : LONGEST < length line = omega (arith, starts-le bytes line h.1, h.0) in
     ap (λ (due : Result output.Progress output.BadLine). output.course_at from due
     (λ q. output.course_after q n (output.outcome q n line)
     (λ r. output.course_from r (n + 1) lines tail)))
     (first_reached from n why.Long bytes (line ∷ lines) tail h ∙ stands)
-    ∙ rw (lt-ltb 4096 (length line) long) refl
+    ∙ rw (lt-ltb LONGEST (length line) long) refl
 broken_output from p n why.Cut bytes lines tail stands h =
     let same : length tail ≡ length bytes = ap length h.3 in
     ap (λ (ls : List (List ℕ)). output.course_from from n ls tail) h.2
     ∙ ap (λ (due : Result output.Progress output.BadLine). output.course_at from due
     (λ q. output.ends q n tail)) (ap (output.reached from n) h.3 ∙ stands)
     ∙ ends_some p n tail why.Cut (omega (arith, h.0))
-    (rw (le-ltb 4096 (length tail) (omega (arith, h.1))) refl)
+    (rw (le-ltb LONGEST (length tail) (omega (arith, h.1))) refl)
 broken_output from p n why.Syntax bytes lines tail stands h = elim h [ ]
 broken_output from p n why.Version bytes lines tail stands h = elim h [ ]
 broken_output from p n why.Limit bytes lines tail stands h = elim h [ ]

@@ -16,6 +16,7 @@ use Rattle.wit_stream.specs.declared.machine.Step.{Step}
 use Rattle.wit_trace.specs.Replays.{EndsFor, GoesAsDue, reports_told}
 use Rattle.std.specs.Global.{Vec}
 use Rattle.wit_trace.proofs.CountLemmas.{keeps_reports, CountsOne, calls_one, calls_in_one}
+use Rattle.wit_grammar.specs.declared.parse.TheConstants.{LONGEST}
 
 header_one : (version : Version) (sizes : Sizes) (fits : Bool)
     → CountsOne 0 (cond fits (output.Goes (output.Opening (output.empty_prelude version sizes)) [])
@@ -38,7 +39,7 @@ entered_one (output.Stepping s m) n line = calls_in_one s m (output.call_of line
 
 outcome_one : (p : output.Progress) (n : ℕ) (bytes : List ℕ)
     → CountsOne (reports_told p) (output.outcome p n bytes)
-outcome_one p n bytes = go (ltb 4096 (length bytes)) (line_of bytes)
+outcome_one p n bytes = go (ltb LONGEST (length bytes)) (line_of bytes)
   where
     go : (long : Bool) (o : Option Line)
         → CountsOne (reports_told p) (cond long (output.Bad why.Long) (output.read_as p n o))

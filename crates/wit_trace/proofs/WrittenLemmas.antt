@@ -17,6 +17,7 @@ use Rattle.wit_model.specs.declared.lines.View.TheVariants.{Reports, Graph, Lock
 use Rattle.wit_stream.specs.declared.machine.Step.{Step}
 use Rattle.wit_stream.specs.declared.machine.Step.TheVariants as step
 use Rattle.wit_stream.specs.declared.summary.Summary.{Summary}
+use Rattle.wit_grammar.specs.declared.parse.TheConstants.{LONGEST}
 
 -- what holds anyway holds at an answer
 pub at_ok : {T E : Type 0} (P : Type 0) (r : Result T E) → P → IfOk r (λ x. P)
@@ -31,9 +32,9 @@ if_ok P Q (Ok x) each h = each x h
 
 -- a line that isn't too long becomes what is read of it
 pub short_line : (p q : output.Progress) (n : ℕ) (bytes : List ℕ) (r : Result (Vec ℕ) LineError)
-    → length bytes ≤ 4096 → GoesAsDue (output.read_as p n (line_of bytes)) p q r
+    → length bytes ≤ LONGEST → GoesAsDue (output.read_as p n (line_of bytes)) p q r
     → GoesAsDue (output.outcome p n bytes) p q r
-short_line p q n bytes r short passes = rw (le-ltb 4096 (length bytes) short) passes
+short_line p q n bytes r short passes = rw (le-ltb LONGEST (length bytes) short) passes
 
 -- ---- what is shown
 

@@ -39,7 +39,7 @@ gone-on q n (moving.Bad cause) next s k ends = let none = ends.1 in (cc)
 pub record Read (q : Moving) (n : ℕ) (bytes : List ℕ) (then : Moving)
     (lines : List (List ℕ)) : Type 0 where
   pub line : Line
-  pub short : length bytes ≤ 4096
+  pub short : length bytes ≤ longest_line
   pub spelled : line_of bytes ≡ Some line
   pub enters : moving_entered q n bytes line ≡ moving.Goes then lines
 

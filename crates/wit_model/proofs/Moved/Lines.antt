@@ -26,12 +26,14 @@ use Rattle.wit_model.specs.Trace.Reading.{line_of}
 use Rattle.wit_model.specs.Trace.Spelling.{spelling, IsSpellable}
 use Rattle.wit_model.proofs.Spelling.Laws.{line_again}
 use Rattle.wit_model.proofs.Spelling.Lengths.{spelled-le}
+use Rattle.wit_model.specs.Trace.Outcomes.{longest_line}
 
 -- a line of good length is read as what it spells
-pub read-short : (p : Progress) (n : ℕ) (bytes : List ℕ) (line : Line) → length bytes ≤ 4096
+pub read-short : (p : Progress) (n : ℕ) (bytes : List ℕ) (line : Line) → length bytes ≤ longest_line
     → line_of bytes ≡ Some line → outcome p n bytes ≡ entered p n line
 read-short p n bytes line short is =
-    ap (λ b. cond b (Bad why.Long) (read_as p n (line_of bytes))) (le-ltb 4096 (length bytes) short)
+    ap (λ b. cond b (Bad why.Long) (read_as p n (line_of bytes)))
+    (le-ltb longest_line (length bytes) short)
     ∙ ap (λ o. read_as p n o) is
 
 pub read-spelled : (p : Progress) (n : ℕ) (line : Line) → IsSpellable line

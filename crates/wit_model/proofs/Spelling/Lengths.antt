@@ -28,13 +28,14 @@ use Rattle.wit_model.specs.declared.locks.Mode.{Mode}
 use Rattle.wit_model.specs.declared.locks.Mode.TheVariants.{Shared, Exclusive}
 use Rattle.wit_model.specs.declared.locks.Watch as level
 use Rattle.wit_model.specs.declared.locks.Watch.TheVariants.{On, Quiet, Off}
-use Rattle.wit_model.specs.Rules.Names.{is_name, is_file_name}
+use Rattle.wit_model.specs.Rules.Names.{is_name, is_file_name, longest_name, longest_file_name}
 use Rattle.wit_model.specs.Trace.Spelling.{version_text, keyword_text, with_keyword, step_keyword}
 use Rattle.wit_model.specs.Trace.Spelling.{lock_keyword, lock_line_fields, class_text, mode_text}
 use Rattle.wit_model.specs.Trace.Spelling.{level_text, lock_letters, op_letters, assert_letters}
 use Rattle.wit_model.specs.Trace.Spelling.{warn_letters, number_if_any, chosen_letters, flags_text}
 use Rattle.wit_model.specs.Trace.Spelling.{site_text, quoted, spaced, type_field, spelling}
 use Rattle.wit_model.specs.Trace.Spelling.{IsSpellableOnLock, IsSpellable}
+use Rattle.wit_model.specs.Trace.Outcomes.{longest_line}
 
 -- a field that takes little of a line
 abbrev IsShort : List ℕ → Type 0
@@ -77,7 +78,7 @@ keyword-le keyword.Define = omega arith
 keyword-le keyword.Watch = omega arith
 
 line-le : (word : Keyword) (fields : List (List ℕ)) → length fields ≤ 9 → AreShort fields
-    → length (with_keyword word fields) ≤ 4096
+    → length (with_keyword word fields) ≤ longest_line
 line-le word fields few short =
     let rest : length (spaced fields) ≤ 301 * length fields = joined-le fields short in
     omega (arith, keyword-le word, length-append (keyword_text word) (spaced fields))
@@ -124,11 +125,11 @@ flags-short letters bits few = either (eqb bits 0)
     either true = omega arith
     either false = omega (arith, chosen-le letters bits)
 
-name-le : (name : List ℕ) → IsTrue (is_name name) → length name ≤ 63
-name-le name h = leb-true (length name) 63 (and_parts _ _ (and_parts _ _ h).0).1
+name-le : (name : List ℕ) → IsTrue (is_name name) → length name ≤ longest_name
+name-le name h = leb-true (length name) longest_name (and_parts _ _ (and_parts _ _ h).0).1
 
-file-le : (file : List ℕ) → IsTrue (is_file_name file) → length file ≤ 255
-file-le file h = leb-true (length file) 255 (and_parts _ _ (and_parts _ _ h).0).1
+file-le : (file : List ℕ) → IsTrue (is_file_name file) → length file ≤ longest_file_name
+file-le file h = leb-true (length file) longest_file_name (and_parts _ _ (and_parts _ _ h).0).1
 
 name-short : (name : List ℕ) → IsTrue (is_name name) → IsShort (quoted name)
 name-short name h = omega (arith, name-le name h, length-append name (34 ∷ []))
@@ -143,7 +144,7 @@ site-short file line h small =
 init-le : (seat : ℕ) (class : Class) (flags : ℕ) (name : List ℕ) (type_name : Option (List ℕ))
     → seat < 2 ^ 16 → IsTrue (is_name name) → IfSome type_name (λ t. IsTrue (is_name t))
     → length (with_keyword keyword.Init (decimal seat ∷ class_text class
-    ∷ flags_text lock_letters flags ∷ quoted name ∷ type_field type_name)) ≤ 4096
+    ∷ flags_text lock_letters flags ∷ quoted name ∷ type_field type_name)) ≤ longest_line
 init-le seat class flags name None p q r =
     line-le keyword.Init (decimal seat ∷ class_text class ∷ flags_text lock_letters flags
     ∷ quoted name ∷ []) (omega arith) (
@@ -170,13 +171,13 @@ init-le seat class flags name (Some t) p q r =
     )
 
 plain-le : (word : Keyword) (s l : ℕ) → s < 2 ^ 16 → l < 2 ^ 32
-    → length (with_keyword word (decimal s ∷ decimal l ∷ [])) ≤ 4096
+    → length (with_keyword word (decimal s ∷ decimal l ∷ [])) ≤ longest_line
 plain-le word s l p q =
     line-le word (decimal s ∷ decimal l ∷ []) (omega arith)
     (number-short s (omega arith), (number-short l q, tt))
 
 step-le : (s : SeatNo) (l : LockNo) (step : RawStep) → s.0 < 2 ^ 16 → l.0 < 2 ^ 32
-    → length (with_keyword (step_keyword step) (lock_line_fields (Step s l step))) ≤ 4096
+    → length (with_keyword (step_keyword step) (lock_line_fields (Step s l step))) ≤ longest_line
 step-le s l (raw_step.TryTake m) p q =
     line-le keyword.TryTake (decimal s.0 ∷ decimal l.0 ∷ mode_text m ∷ []) (omega arith)
     (number-short s.0 (omega arith), (number-short l.0 q, (mode-short m, tt)))
@@ -186,7 +187,7 @@ step-le s l raw_step.Up p q = plain-le keyword.RawUp s.0 l.0 p q
 step-le s l raw_step.Down p q = plain-le keyword.RawDown s.0 l.0 p q
 
 on-lock-le : (line : LockLine (List ℕ)) → IsSpellableOnLock line
-    → length (with_keyword (lock_keyword line) (lock_line_fields line)) ≤ 4096
+    → length (with_keyword (lock_keyword line) (lock_line_fields line)) ≤ longest_line
 on-lock-le (Check s l m o f n) (p0, p1, p2, p3, p4) =
     line-le keyword.Check (lock_line_fields (Check s l m o f n)) (omega arith) (
       number-short s.0 (omega arith),
@@ -211,7 +212,8 @@ on-lock-le (Step s l step) (p0, p1) = step-le s l step p0 p1
 
 -- a line of another kind than a list
 pub spelled-le : (line : Line) → IsSpellable line
-    → ((list : List (Class × List ℕ)) → line ≡ Order list → ⊥) → length (spelling line) ≤ 4096
+    → ((list : List (Class × List ℕ)) → line ≡ Order list → ⊥)
+    → length (spelling line) ≤ longest_line
 spelled-le (Header v s t l c) (p0, p1, p2, p3) other =
     line-le keyword.Header
     (version_text v ∷ codes "seats" ∷ decimal s ∷ codes "types" ∷ decimal t

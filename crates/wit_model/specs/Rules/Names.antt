@@ -6,14 +6,24 @@ use Rattle.std.specs.List.{list_all}
 abbrev pub is_name_byte : ℕ → Bool
 is_name_byte b = nat_le 0x20 b && nat_le b 0x7e && not (b == 0x22)
 
--- 1 to 63 such bytes
+-- how many bytes a name has at most
+abbrev pub longest_name : ℕ
+longest_name = 63
+
+-- one byte or more, and not too many
 abbrev pub is_name : List ℕ → Bool
-is_name name = not (length name == 0) && nat_le (length name) 63 && list_all is_name_byte name
+is_name name =
+    not (length name == 0) && nat_le (length name) longest_name && list_all is_name_byte name
 
 -- a byte of a file name: printable, and neither a space nor a quotation mark
 abbrev pub is_file_byte : ℕ → Bool
 is_file_byte b = nat_le 0x21 b && nat_le b 0x7e && not (b == 0x22)
 
--- 1 to 255 such bytes
+-- how many bytes a file name has at most
+abbrev pub longest_file_name : ℕ
+longest_file_name = 255
+
+-- one byte or more, and not too many
 abbrev pub is_file_name : List ℕ → Bool
-is_file_name name = not (length name == 0) && nat_le (length name) 255 && list_all is_file_byte name
+is_file_name name =
+    not (length name == 0) && nat_le (length name) longest_file_name && list_all is_file_byte name

@@ -2,6 +2,7 @@ use Rattle.std.proofs.Common.{◌+◌, ◌^◌, ◌≡◌, ◌<◌, ◌≤◌, [
 use Rattle.wit_stream.specs.Stream.{OutputFrom}
 use Rattle.wit_stream.proofs.StreamInputs.{Going}
 use Rattle.wit_stream.proofs.stream.run.Given as goal
+use Rattle.wit_grammar.specs.declared.parse.TheConstants.{LONGEST}
 
 abbrev pub invariant-loop-left : goal.invariant-loop-left
 invariant-loop-left g l = record {
@@ -12,7 +13,7 @@ invariant-loop-left g l = record {
       l.line.items l.told.items;
   shown : g.M.Machine.shows_by l.machine ≡ g.M.Machine.shows_by l.fn.machine;
   none : l.text.items ≡ [];
-  short : length l.line.items ≤ 4096;
+  short : length l.line.items ≤ LONGEST;
   fewer : l.number ≤ g.P.Ports.looks l.ports + 1;
   enough : 2 ^ 64 ≤ l.left + g.P.Ports.looks l.ports + l.number;
   told : g.M.Machine.reports l.machine < l.number;
