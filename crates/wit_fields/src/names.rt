@@ -18,7 +18,7 @@ use wit_model::{Class, FileName, FileNo, Name, TypeList};
 /// The bytes before a byte's last place, and those after it.
 #[inline(always)]
 fn split_at_last(byte: u8, word: &[u8]) -> Result<(&[u8], &[u8]), LineError>
-    ensures { Gives (λ x. (x.0.now, x.1.now)) result (parted_at_last byte word.now) }
+    ensures { Gives (λ field. (field.0.now, field.1.now)) result (parted_at_last byte word.now) }
 {
     for i in (0..word.len()).rev() {
         if word[i] == byte {
@@ -86,7 +86,7 @@ fn any_file_name(bytes: &[u8]) -> Result<&str, LineError>
 /// A name between quotation marks.
 #[tactic(auto, unfolding(wit_model::specs::Trace::Reading::leading_quoted))]
 pub fn name(alloc: Global, bytes: &[u8]) -> Result<(Name, &[u8]), LineError>
-    ensures { Gives (λ x. (x.0, x.1.now)) result (leading_quoted bytes.now) }
+    ensures { Gives (λ field. (field.0, field.1.now)) result (leading_quoted bytes.now) }
 {
     let opened = skip(b' ', bytes)?;
     let inside = skip(b'"', opened)?;
@@ -98,7 +98,7 @@ pub fn name(alloc: Global, bytes: &[u8]) -> Result<(Name, &[u8]), LineError>
 
 /// A name, or none at the end of the line.
 pub fn name_if_any(alloc: Global, bytes: &[u8]) -> Result<(Option<Name>, &[u8]), LineError>
-    ensures { Gives (λ x. (x.0, x.1.now)) result (optional leading_quoted bytes.now) }
+    ensures { Gives (λ field. (field.0, field.1.now)) result (optional leading_quoted bytes.now) }
 {
     if bytes.is_empty() {
         return Ok((None, bytes));
@@ -110,7 +110,7 @@ pub fn name_if_any(alloc: Global, bytes: &[u8]) -> Result<(Option<Name>, &[u8]),
 /// A type by its class and its name.
 #[tactic(auto, unfolding(wit_model::specs::Trace::Reading::leading_type))]
 fn listed_type(alloc: Global, bytes: &[u8]) -> Result<(Class, Name, &[u8]), LineError>
-    ensures { Gives (λ x. ((x.0, x.1), x.2.now)) result (leading_type bytes.now) }
+    ensures { Gives (λ field. ((field.0, field.1), field.2.now)) result (leading_type bytes.now) }
 {
     let (class, rest) = class(bytes)?;
     let (name, rest) = name(alloc, rest)?;
@@ -143,8 +143,9 @@ pub fn site<'a>(
     bytes: &'a [u8],
 ) -> Result<(&'a str, Option<FileNo>, u32, &'a [u8]), LineError>
     requires { IfSome known (λ k. is_file_name k.1.now ≡ true) }
-    ensures value { Gives (λ x. ((x.0.now, x.2), x.3.now)) result (field_at site_of bytes.now) }
-    ensures known { IfOk result (λ x. IfSome x.1 (IsKnownAs known.entry x.0.now)) }
+    ensures value { Gives (λ field. ((field.0.now, field.2), field.3.now)) result
+        (field_at site_of bytes.now) }
+    ensures known { IfOk result (λ field. IfSome field.1 (IsKnownAs known.entry field.0.now)) }
 {
     let (word, rest) = long_word(bytes)?;
     let (file, line) = split_at_last(b':', word)?;

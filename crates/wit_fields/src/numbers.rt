@@ -63,9 +63,9 @@ pub fn number_of(most: u32, word: &[u8]) -> Result<u32, LineError>
 /// bytes from there on. One look.
 #[inline(always)]
 fn leading_number(most: u32, bytes: &[u8]) -> Result<(u32, &[u8]), LineError>
-    ensures value { Gives (λ x. (x.0, x.1.now)) result
+    ensures value { Gives (λ field. (field.0, field.1.now)) result
         (leading_number (most + 1) bytes.now) }
-    ensures below { IfOk result (λ x. x.0 ≤ most) }
+    ensures below { IfOk result (λ field. field.0 ≤ most) }
 {
     let mut number = 0;
     let mut len = 0;
@@ -86,8 +86,9 @@ fn leading_number(most: u32, bytes: &[u8]) -> Result<(u32, &[u8]), LineError>
 // A number behind a space. One of up to three digits is read at once.
 #[inline(always)]
 fn number(most: u32, bytes: &[u8]) -> Result<(u32, &[u8]), LineError>
-    ensures value { Gives (λ x. (x.0, x.1.now)) result (field_at (number_of (most + 1)) bytes.now) }
-    ensures below { IfOk result (λ x. x.0 ≤ most) }
+    ensures value { Gives (λ field. (field.0, field.1.now)) result
+        (field_at (number_of (most + 1)) bytes.now) }
+    ensures below { IfOk result (λ field. field.0 ≤ most) }
 {
     if let Some(number) = last_digit(bytes) {
         if number <= most {
@@ -225,8 +226,9 @@ fn last_three(bytes: &[u8]) -> Option<(u32, u32, u32)>
 
 #[tactic(auto, unfolding(wit_model::specs::Trace::Reading::leading_word))]
 fn any_number(most: u32, bytes: &[u8]) -> Result<(u32, &[u8]), LineError>
-    ensures value { Gives (λ x. (x.0, x.1.now)) result (field_at (number_of (most + 1)) bytes.now) }
-    ensures below { IfOk result (λ x. x.0 ≤ most) }
+    ensures value { Gives (λ field. (field.0, field.1.now)) result
+        (field_at (number_of (most + 1)) bytes.now) }
+    ensures below { IfOk result (λ field. field.0 ≤ most) }
 {
     leading_number(most, skip(b' ', bytes)?)
 }
@@ -235,7 +237,7 @@ fn any_number(most: u32, bytes: &[u8]) -> Result<(u32, &[u8]), LineError>
 #[tactic(auto, unfolding(wit_model::specs::Trace::Reading::leading_seat))]
 #[inline(always)]
 pub fn seat(bytes: &[u8]) -> Result<(SeatNo, &[u8]), LineError>
-    ensures { Gives (λ x. (x.0.0, x.1.now)) result (leading_seat bytes.now) }
+    ensures { Gives (λ field. (field.0.0, field.1.now)) result (leading_seat bytes.now) }
 {
     let (seat, rest) = number(65535, bytes)?;
     Ok((SeatNo(seat as u16), rest))
@@ -245,7 +247,7 @@ pub fn seat(bytes: &[u8]) -> Result<(SeatNo, &[u8]), LineError>
 #[tactic(auto, unfolding(wit_model::specs::Trace::Reading::leading_lock))]
 #[inline(always)]
 pub fn lock(bytes: &[u8]) -> Result<(LockNo, &[u8]), LineError>
-    ensures { Gives (λ x. (x.0.0, x.1.now)) result (leading_lock bytes.now) }
+    ensures { Gives (λ field. (field.0.0, field.1.now)) result (leading_lock bytes.now) }
 {
     let (lock, rest) = number(u32::MAX, bytes)?;
     Ok((LockNo(lock), rest))
@@ -254,7 +256,8 @@ pub fn lock(bytes: &[u8]) -> Result<(LockNo, &[u8]), LineError>
 /// A number behind a fixed word: 0 to 4,294,967,295.
 #[tactic(auto, unfolding(wit_model::specs::Trace::Reading::leading_count))]
 pub fn count<'a>(label: &[u8], bytes: &'a [u8]) -> Result<(u32, &'a [u8]), LineError>
-    ensures { Gives (λ x. (x.0, x.1.now)) result (behind label.now leading_count bytes.now) }
+    ensures { Gives (λ field. (field.0, field.1.now)) result
+        (behind label.now leading_count bytes.now) }
 {
     number(u32::MAX, fixed(label, bytes)?)
 }

@@ -16,7 +16,7 @@ use wit_model::{Class, Mode, Version, Watch};
 /// The bytes after the one that must stand first.
 #[inline(always)]
 pub fn skip(byte: u8, bytes: &[u8]) -> Result<&[u8], LineError>
-    ensures { Gives (λ x. x.now) result (after byte bytes.now) }
+    ensures { Gives (λ field. field.now) result (after byte bytes.now) }
 {
     match bytes.split_first() {
         Some((first, rest)) if *first == byte => Ok(rest),
@@ -62,7 +62,7 @@ pub fn split_before(byte: u8, bytes: &[u8]) -> (&[u8], &[u8])
 #[tactic(auto, unfolding(wit_model::specs::Trace::Reading::leading_word))]
 #[inline(always)]
 pub fn word(bytes: &[u8]) -> Result<(&[u8], &[u8]), LineError>
-    ensures { Gives (λ x. (x.0.now, x.1.now)) result (leading_word bytes.now) }
+    ensures { Gives (λ field. (field.0.now, field.1.now)) result (leading_word bytes.now) }
 {
     let rest = skip(b' ', bytes)?;
     Ok(split_before(b' ', rest))
@@ -72,7 +72,7 @@ pub fn word(bytes: &[u8]) -> Result<(&[u8], &[u8]), LineError>
 #[tactic(auto, unfolding(wit_model::specs::Trace::Reading::leading_word))]
 #[inline(always)]
 pub fn long_word(bytes: &[u8]) -> Result<(&[u8], &[u8]), LineError>
-    ensures { Gives (λ x. (x.0.now, x.1.now)) result (leading_word bytes.now) }
+    ensures { Gives (λ field. (field.0.now, field.1.now)) result (leading_word bytes.now) }
 {
     let rest = skip(b' ', bytes)?;
     Ok(rest.split_at(far_index_of(b' ', rest)))
@@ -81,7 +81,7 @@ pub fn long_word(bytes: &[u8]) -> Result<(&[u8], &[u8]), LineError>
 /// The bytes after a fixed word.
 #[tactic(auto, unfolding(wit_model::specs::Trace::Reading::fixed_at))]
 pub fn fixed<'a>(text: &[u8], bytes: &'a [u8]) -> Result<&'a [u8], LineError>
-    ensures { Gives (λ x. x.now) result (fixed_at text.now bytes.now) }
+    ensures { Gives (λ field. field.now) result (fixed_at text.now bytes.now) }
 {
     let (word, rest) = word(bytes)?;
     if word == text {
@@ -94,7 +94,7 @@ pub fn fixed<'a>(text: &[u8], bytes: &'a [u8]) -> Result<&'a [u8], LineError>
 /// A version of the format: `1` or `2`.
 #[tactic(auto, unfolding(wit_model::specs::Trace::Reading::version_named))]
 pub fn version(bytes: &[u8]) -> Result<(Version, &[u8]), LineError>
-    ensures { Gives (λ x. (x.0, x.1.now)) result (field_at version_named bytes.now) }
+    ensures { Gives (λ field. (field.0, field.1.now)) result (field_at version_named bytes.now) }
 {
     let (word, rest) = word(bytes)?;
     match word {
@@ -107,7 +107,7 @@ pub fn version(bytes: &[u8]) -> Result<(Version, &[u8]), LineError>
 /// A mode: `s` or `x`. The latter, in which mutexes are always held, is compared at once.
 #[inline(always)]
 pub fn mode(bytes: &[u8]) -> Result<(Mode, &[u8]), LineError>
-    ensures { Gives (λ x. (x.0, x.1.now)) result (field_at mode_named bytes.now) }
+    ensures { Gives (λ field. (field.0, field.1.now)) result (field_at mode_named bytes.now) }
 {
     if is_last_x(bytes) {
         return Ok((Mode::Exclusive, &bytes[2..]));
@@ -135,7 +135,7 @@ fn is_inner_x(bytes: &[u8]) -> bool
 // A mode, whichever it is and wherever its word ends.
 #[tactic(auto, unfolding(wit_model::specs::Trace::Reading::mode_named))]
 fn any_mode(bytes: &[u8]) -> Result<(Mode, &[u8]), LineError>
-    ensures { Gives (λ x. (x.0, x.1.now)) result (field_at mode_named bytes.now) }
+    ensures { Gives (λ field. (field.0, field.1.now)) result (field_at mode_named bytes.now) }
 {
     let (word, rest) = word(bytes)?;
     match word {
@@ -148,7 +148,7 @@ fn any_mode(bytes: &[u8]) -> Result<(Mode, &[u8]), LineError>
 /// A watch level: `1`, `0` or `-1`.
 #[tactic(auto, unfolding(wit_model::specs::Trace::Reading::level_named))]
 pub fn level(bytes: &[u8]) -> Result<(Watch, &[u8]), LineError>
-    ensures { Gives (λ x. (x.0, x.1.now)) result (field_at level_named bytes.now) }
+    ensures { Gives (λ field. (field.0, field.1.now)) result (field_at level_named bytes.now) }
 {
     let (word, rest) = word(bytes)?;
     match word {
@@ -162,7 +162,7 @@ pub fn level(bytes: &[u8]) -> Result<(Watch, &[u8]), LineError>
 /// A class: `mtx`, `spin`, `rw` or `sx`.
 #[tactic(auto, unfolding(wit_model::specs::Trace::Reading::class_named))]
 pub fn class(bytes: &[u8]) -> Result<(Class, &[u8]), LineError>
-    ensures { Gives (λ x. (x.0, x.1.now)) result (field_at class_named bytes.now) }
+    ensures { Gives (λ field. (field.0, field.1.now)) result (field_at class_named bytes.now) }
 {
     let (word, rest) = word(bytes)?;
     match word {
@@ -193,7 +193,8 @@ fn bits_of(letters: &[u8], word: &[u8]) -> Option<u8>
 /// The flags of a request. The one that most have alone is compared at once.
 #[inline(always)]
 pub fn request_flags(bytes: &[u8]) -> Result<(u8, &[u8]), LineError>
-    ensures { Gives (λ x. (x.0, x.1.now)) result (field_at (flags_of op_letters) bytes.now) }
+    ensures { Gives (λ field. (field.0, field.1.now)) result
+        (field_at (flags_of op_letters) bytes.now) }
 {
     if is_inner_n(bytes) {
         return Ok((1, &bytes[2..]));
@@ -214,7 +215,8 @@ fn is_inner_n(bytes: &[u8]) -> bool
 #[inline(always)]
 pub fn flags<'a>(letters: &[u8], bytes: &'a [u8]) -> Result<(u8, &'a [u8]), LineError>
     requires { length letters.now ≤ 8 }
-    ensures { Gives (λ x. (x.0, x.1.now)) result (field_at (flags_of letters.now) bytes.now) }
+    ensures { Gives (λ field. (field.0, field.1.now)) result
+        (field_at (flags_of letters.now) bytes.now) }
 {
     let (word, rest) = word(bytes)?;
     match word {

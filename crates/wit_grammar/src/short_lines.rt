@@ -41,9 +41,11 @@ pub struct CheckFields<'a> {
 pub fn check_fields<'a>(known: Option<(FileNo, &str)>, bytes: &'a [u8]) -> Option<CheckFields<'a>>
     requires { IfSome known (λ k. is_file_name k.1.now ≡ true) }
     ensures read { GivesIfFound
-        (λ x. OnLock (Check x.seat x.lock x.mode x.ops x.file.now x.line)) result
+        (λ fields. OnLock (Check fields.seat fields.lock fields.mode fields.ops fields.file.now
+            fields.line)) result
         (fields_of keyword.Check bytes.now) }
-    ensures known { IfSome result (λ x. IfSome x.number (IsKnownAs known.entry x.file.now)) }
+    ensures known { IfSome result (λ fields.
+        IfSome fields.number (IsKnownAs known.entry fields.file.now)) }
 {
     let (seat, rest) = numbers::seat(bytes).ok()?;
     let (lock, rest) = numbers::lock(rest).ok()?;
@@ -68,7 +70,7 @@ pub fn check_fields<'a>(known: Option<(FileNo, &str)>, bytes: &'a [u8]) -> Optio
 #[tactic(auto, unfolding(wit_model::specs::Trace::Reading::unlock_of))]
 #[inline(always)]
 pub fn unlock_fields(bytes: &[u8]) -> Option<(SeatNo, LockNo, Mode)>
-    ensures { GivesIfFound (λ x. OnLock (Unlock x.0 x.1 x.2)) result
+    ensures { GivesIfFound (λ fields. OnLock (Unlock fields.0 fields.1 fields.2)) result
         (fields_of keyword.Unlock bytes.now) }
 {
     let (seat, rest) = numbers::seat(bytes).ok()?;
@@ -84,7 +86,7 @@ pub fn unlock_fields(bytes: &[u8]) -> Option<(SeatNo, LockNo, Mode)>
 #[tactic(auto, unfolding(wit_model::specs::Trace::Reading::plain_of))]
 #[inline(always)]
 pub fn note_fields(bytes: &[u8]) -> Option<(SeatNo, LockNo)>
-    ensures { GivesIfFound (λ x. OnLock (Plain Note x.0 x.1)) result
+    ensures { GivesIfFound (λ fields. OnLock (Plain Note fields.0 fields.1)) result
         (fields_of (keyword.Plain Note) bytes.now) }
 {
     let (seat, rest) = numbers::seat(bytes).ok()?;
@@ -99,7 +101,7 @@ pub fn note_fields(bytes: &[u8]) -> Option<(SeatNo, LockNo)>
 #[tactic(auto, unfolding(wit_model::specs::Trace::Reading::step_of))]
 #[inline(always)]
 pub fn take_fields(bytes: &[u8]) -> Option<(SeatNo, LockNo)>
-    ensures { GivesIfFound (λ x. OnLock (Step x.0 x.1 Take)) result
+    ensures { GivesIfFound (λ fields. OnLock (Step fields.0 fields.1 Take)) result
         (fields_of keyword.Take bytes.now) }
 {
     let (seat, rest) = numbers::seat(bytes).ok()?;
@@ -114,7 +116,7 @@ pub fn take_fields(bytes: &[u8]) -> Option<(SeatNo, LockNo)>
 #[tactic(auto, unfolding(wit_model::specs::Trace::Reading::step_of))]
 #[inline(always)]
 pub fn free_fields(bytes: &[u8]) -> Option<(SeatNo, LockNo)>
-    ensures { GivesIfFound (λ x. OnLock (Step x.0 x.1 Free)) result
+    ensures { GivesIfFound (λ fields. OnLock (Step fields.0 fields.1 Free)) result
         (fields_of keyword.Free bytes.now) }
 {
     let (seat, rest) = numbers::seat(bytes).ok()?;

@@ -66,7 +66,7 @@ fn second_text(bytes: &[u8]) -> Result<(&[u8], &[u8]), LineError>
 // The class and the name of the type that stands first, and what follows it.
 #[tactic(auto, unfolding(crate::specs::Reading::first_type))]
 fn first_type(bytes: &[u8]) -> Result<(Class, &[u8], &[u8]), LineError>
-    ensures { Gives (λ x. ((x.0, x.1.now), x.2.now)) result (first_type bytes.now) }
+    ensures { Gives (λ field. ((field.0, field.1.now), field.2.now)) result (first_type bytes.now) }
 {
     let (word, rest) = split_before(b' ', bytes);
     let class = class_of(word)?;
@@ -90,7 +90,7 @@ fn class_of(word: &[u8]) -> Result<Class, LineError>
 // A name between quotation marks, behind a space.
 #[tactic(auto, unfolding(crate::specs::Reading::leading_type_name))]
 fn type_name(bytes: &[u8]) -> Result<(&[u8], &[u8]), LineError>
-    ensures { Gives (λ x. (x.0.now, x.1.now)) result (leading_type_name bytes.now) }
+    ensures { Gives (λ field. (field.0.now, field.1.now)) result (leading_type_name bytes.now) }
 {
     let opened = skip(b' ', bytes)?;
     let inside = skip(b'"', opened)?;

@@ -94,7 +94,8 @@ impl<J: Room> Desk<J> {
 
     /// Makes a logged call, whichever it is.
     pub fn call<R: Wait>(&mut self, rt: &R, seat: &mut Seat<J>, call: Call) -> Result<Reply, Fault>
-        ensures { Told J.start [] (λ s new. AnswersOrFails s seat.old.seat call result new)
+        ensures { Told J.start [] (λ before after.
+            AnswersOrFails before seat.old.seat call result after)
             seat.old seat.new }
     {
         let answer = make(
@@ -118,9 +119,9 @@ impl<J: Room> Desk<J> {
         class: Class,
         flags: LockFlags,
     ) -> Result<LockNo, Fault>
-        ensures { Told J.start [] (λ s new. AnswersOrFails s seat.old.seat
+        ensures { Told J.start [] (λ before after. AnswersOrFails before seat.old.seat
             (Init (new_lock name.now (option_copied type_name.entry) class flags))
-            (made_reply result) new) seat.old seat.new }
+            (made_reply result) after) seat.old seat.new }
     {
         let answer = self
             .verifier
@@ -131,7 +132,8 @@ impl<J: Room> Desk<J> {
 
     /// Notes an acquisition.
     pub fn note(&mut self, seat: &mut Seat<J>, lock: LockNo) -> Result<Reply, Fault>
-        ensures { Told J.start [] (λ s new. Answers s seat.old.seat (Note lock) result new)
+        ensures { Told J.start [] (λ before after.
+            Answers before seat.old.seat (Note lock) result after)
             seat.old seat.new }
     {
         let answer = self.verifier.note(seat.number(), lock);
@@ -141,7 +143,8 @@ impl<J: Room> Desk<J> {
 
     /// Drops a request.
     pub fn give_up(&mut self, seat: &mut Seat<J>, lock: LockNo) -> Result<Reply, Fault>
-        ensures { Told J.start [] (λ s new. Answers s seat.old.seat (GiveUp lock) result new)
+        ensures { Told J.start [] (λ before after.
+            Answers before seat.old.seat (GiveUp lock) result after)
             seat.old seat.new }
     {
         let answer = self.verifier.give_up(seat.number(), lock);
@@ -151,7 +154,8 @@ impl<J: Room> Desk<J> {
 
     /// Notes a release.
     pub fn unlock(&mut self, seat: &mut Seat<J>, lock: LockNo, mode: Mode) -> Result<Reply, Fault>
-        ensures { Told J.start [] (λ s new. Answers s seat.old.seat (Unlock lock mode) result new)
+        ensures { Told J.start [] (λ before after.
+            Answers before seat.old.seat (Unlock lock mode) result after)
             seat.old seat.new }
     {
         let answer = self.verifier.unlock(seat.number(), lock, mode);
@@ -162,7 +166,7 @@ impl<J: Room> Desk<J> {
     /// Names a file.
     pub fn file(&mut self, seat: &mut Seat<J>, name: &str) -> Result<FileNo, Fault>
         ensures { Told J.start (given_by result name.now)
-            (λ s new. NamesFile s name.now result new) seat.old seat.new }
+            (λ before after. NamesFile before name.now result after) seat.old seat.new }
     {
         match self.verifier.file(name) {
             Ok(file) => {
@@ -183,9 +187,9 @@ impl<J: Room> Desk<J> {
         lock: LockNo,
         flags: LockAssert,
     ) -> Result<AssertAnswer, Fault>
-        ensures { Told J.start [] (λ s new.
-            (result ≡ step_assert (state_of s) seat.old.seat lock.0 flags)
-            × (new ≡ s)) seat.old seat.new }
+        ensures { Told J.start [] (λ before after.
+            (result ≡ step_assert (state_of before) seat.old.seat lock.0 flags)
+            × (after ≡ before)) seat.old seat.new }
     {
         follow(&mut self.keeper, &self.verifier, seat);
         self.verifier.assert_lock(seat.number(), lock, flags)
@@ -198,9 +202,9 @@ impl<J: Room> Desk<J> {
         named: Option<LockNo>,
         flags: WarnFlags,
     ) -> Result<usize, Fault>
-        ensures { Told J.start [] (λ s new.
-            (result ≡ step_warn (state_of s) seat.old.seat named flags)
-            × (new ≡ s)) seat.old seat.new }
+        ensures { Told J.start [] (λ before after.
+            (result ≡ step_warn (state_of before) seat.old.seat named flags)
+            × (after ≡ before)) seat.old seat.new }
     {
         follow(&mut self.keeper, &self.verifier, seat);
         self.verifier.warn(seat.number(), named, flags)
@@ -208,8 +212,8 @@ impl<J: Room> Desk<J> {
 
     /// Looks at the verifier.
     pub fn look<L: Look>(&mut self, seat: &mut Seat<J>, wanted: L) -> L::Out
-        ensures { Told J.start [] (λ s new. (L.done wanted result s)
-            × (new ≡ s)) seat.old seat.new }
+        ensures { Told J.start [] (λ before after. (L.done wanted result before)
+            × (after ≡ before)) seat.old seat.new }
     {
         follow(&mut self.keeper, &self.verifier, seat);
         wanted.look(&self.verifier)
@@ -217,7 +221,7 @@ impl<J: Room> Desk<J> {
 
     /// News of all adopted orders.
     pub fn news(&mut self, seat: &mut Seat<J>) -> News<J>
-        ensures told { Told J.start [] (λ s new. new ≡ s) seat.old seat.new }
+        ensures told { Told J.start [] (λ before after. after ≡ before) seat.old seat.new }
         ensures all { result ≡ adoptions J.start seat.new.seen }
     {
         follow(&mut self.keeper, &self.verifier, seat);
@@ -226,7 +230,7 @@ impl<J: Room> Desk<J> {
 
     /// Shows that what an observer knows is how the adopted orders begin.
     pub fn covers(&mut self, seat: &mut Seat<J>, observer: &Observer<J>)
-        ensures told { Told J.start [] (λ s new. new ≡ s) seat.old seat.new }
+        ensures told { Told J.start [] (λ before after. after ≡ before) seat.old seat.new }
         ensures begins { IsPrefix observer.now (adoptions J.start seat.new.seen) }
     {
         follow(&mut self.keeper, &self.verifier, seat);

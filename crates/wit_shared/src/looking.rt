@@ -36,7 +36,7 @@ impl<J: Room> Shared<J> {
     /// Those of `Verifier::file`.
     pub fn file<R: Wait>(&self, rt: &R, seat: &mut Seat<J>, name: &str) -> Result<FileNo, Fault>
         ensures { Told J.start (given_by result name.now)
-            (λ s new. NamesFile s name.now result new) seat.old seat.new }
+            (λ before after. NamesFile before name.now result after) seat.old seat.new }
     {
         let mut desk = self.desk.lock(rt);
         let answer = desk.file(seat, name);
@@ -55,9 +55,9 @@ impl<J: Room> Shared<J> {
         lock: LockNo,
         flags: LockAssert,
     ) -> Result<AssertAnswer, Fault>
-        ensures { Told J.start [] (λ s new.
-            (result ≡ step_assert (state_of s) seat.old.seat lock.0 flags)
-            × (new ≡ s)) seat.old seat.new }
+        ensures { Told J.start [] (λ before after.
+            (result ≡ step_assert (state_of before) seat.old.seat lock.0 flags)
+            × (after ≡ before)) seat.old seat.new }
     {
         let mut desk = self.desk.lock(rt);
         let answer = desk.assert_lock(seat, lock, flags);
@@ -76,9 +76,9 @@ impl<J: Room> Shared<J> {
         named: Option<LockNo>,
         flags: WarnFlags,
     ) -> Result<usize, Fault>
-        ensures { Told J.start [] (λ s new.
-            (result ≡ step_warn (state_of s) seat.old.seat named flags)
-            × (new ≡ s)) seat.old seat.new }
+        ensures { Told J.start [] (λ before after.
+            (result ≡ step_warn (state_of before) seat.old.seat named flags)
+            × (after ≡ before)) seat.old seat.new }
     {
         let mut desk = self.desk.lock(rt);
         let answer = desk.warn(seat, named, flags);
@@ -88,8 +88,8 @@ impl<J: Room> Shared<J> {
 
     /// Looks at the verifier while no call changes it. Nothing is logged.
     pub fn look<R: Wait, L: Look>(&self, rt: &R, seat: &mut Seat<J>, wanted: L) -> L::Out
-        ensures { Told J.start [] (λ s new. (L.done wanted result s)
-            × (new ≡ s)) seat.old seat.new }
+        ensures { Told J.start [] (λ before after. (L.done wanted result before)
+            × (after ≡ before)) seat.old seat.new }
     {
         let mut desk = self.desk.lock(rt);
         let out = desk.look(seat, wanted);
@@ -107,7 +107,8 @@ impl<J: Room> Shared<J> {
         rt: &R,
         seat: &mut Seat<J>,
     ) -> Result<Option<Vec<SeatNo>>, Fault>
-        ensures { Told J.start [] (λ s new. (TellsWaits s result) × (new ≡ s)) seat.old seat.new }
+        ensures { Told J.start [] (λ before after.
+            (TellsWaits before result) × (after ≡ before)) seat.old seat.new }
     {
         self.look(rt, seat, Waits)
     }

@@ -64,7 +64,8 @@ impl<J: Room> Shared<J> {
 
     // Makes a logged call, whichever it is.
     fn call<R: Wait>(&self, rt: &R, seat: &mut Seat<J>, call: Call) -> Result<Reply, Fault>
-        ensures { Told J.start [] (λ s new. AnswersOrFails s seat.old.seat call result new)
+        ensures { Told J.start [] (λ before after.
+            AnswersOrFails before seat.old.seat call result after)
             seat.old seat.new }
     {
         let mut desk = self.desk.lock(rt);
@@ -86,9 +87,9 @@ impl<J: Room> Shared<J> {
         class: Class,
         flags: LockFlags,
     ) -> Result<LockNo, Fault>
-        ensures { Told J.start [] (λ s new. AnswersOrFails s seat.old.seat
+        ensures { Told J.start [] (λ before after. AnswersOrFails before seat.old.seat
             (Init (new_lock name.now (option_copied type_name.entry) class flags))
-            (made_reply result) new) seat.old seat.new }
+            (made_reply result) after) seat.old seat.new }
     {
         let mut desk = self.desk.lock(rt);
         let answer = desk.init(seat, name, type_name, class, flags);
@@ -109,8 +110,8 @@ impl<J: Room> Shared<J> {
         ops: OpFlags,
         site: Site,
     ) -> Result<Reply, Fault>
-        ensures told { Told J.start [] (λ s new. AnswersOrFails s seat.old.seat
-            (Check (record { lock = lock; site = site; mode = mode; ops = ops })) result new)
+        ensures told { Told J.start [] (λ before after. AnswersOrFails before seat.old.seat
+            (Check (record { lock = lock; site = site; mode = mode; ops = ops })) result after)
             seat.old seat.new }
         ensures file { HasFile seat.old.given site.file → result ≢ Err UnknownFile }
     {
@@ -129,7 +130,8 @@ impl<J: Room> Shared<J> {
     /// # Errors
     /// Those of `Verifier::note`.
     pub fn note<R: Wait>(&self, rt: &R, seat: &mut Seat<J>, lock: LockNo) -> Result<Reply, Fault>
-        ensures told { Told J.start [] (λ s new. Answers s seat.old.seat (Note lock) result new)
+        ensures told { Told J.start [] (λ before after.
+            Answers before seat.old.seat (Note lock) result after)
             seat.old seat.new }
         ensures asked { AsksFor seat.old lock → IsOk result }
     {
@@ -152,7 +154,8 @@ impl<J: Room> Shared<J> {
         site: Site,
     ) -> Result<Reply, Fault>
         ensures told { Told J.start []
-            (λ s new. AnswersOrFails s seat.old.seat (NoteTry lock mode site) result new)
+            (λ before after. AnswersOrFails before seat.old.seat
+                (NoteTry lock mode site) result after)
             seat.old seat.new }
         ensures file { HasFile seat.old.given site.file → result ≢ Err UnknownFile }
     {
@@ -165,7 +168,8 @@ impl<J: Room> Shared<J> {
     /// # Errors
     /// Those of `Verifier::give_up`.
     pub fn give_up<R: Wait>(&self, rt: &R, seat: &mut Seat<J>, lock: LockNo) -> Result<Reply, Fault>
-        ensures told { Told J.start [] (λ s new. Answers s seat.old.seat (GiveUp lock) result new)
+        ensures told { Told J.start [] (λ before after.
+            Answers before seat.old.seat (GiveUp lock) result after)
             seat.old seat.new }
         ensures asked { AsksFor seat.old lock → IsOk result }
     {
@@ -186,7 +190,8 @@ impl<J: Room> Shared<J> {
         lock: LockNo,
         mode: Mode,
     ) -> Result<Reply, Fault>
-        ensures { Told J.start [] (λ s new. Answers s seat.old.seat (Unlock lock mode) result new)
+        ensures { Told J.start [] (λ before after.
+            Answers before seat.old.seat (Unlock lock mode) result after)
             seat.old seat.new }
     {
         let mut desk = self.desk.lock(rt);
@@ -200,8 +205,8 @@ impl<J: Room> Shared<J> {
     /// # Errors
     /// Those of `Verifier::upgrade`.
     pub fn upgrade<R: Wait>(&self, rt: &R, seat: &mut Seat<J>, lock: LockNo) -> Result<Reply, Fault>
-        ensures { Told J.start [] (λ s new. AnswersOrFails s seat.old.seat
-            (Upgrade lock) result new) seat.old seat.new }
+        ensures { Told J.start [] (λ before after. AnswersOrFails before seat.old.seat
+            (Upgrade lock) result after) seat.old seat.new }
     {
         self.call(rt, seat, Call::Upgrade(lock))
     }
@@ -216,8 +221,8 @@ impl<J: Room> Shared<J> {
         seat: &mut Seat<J>,
         lock: LockNo,
     ) -> Result<Reply, Fault>
-        ensures { Told J.start [] (λ s new. AnswersOrFails s seat.old.seat
-            (Downgrade lock) result new) seat.old seat.new }
+        ensures { Told J.start [] (λ before after. AnswersOrFails before seat.old.seat
+            (Downgrade lock) result after) seat.old seat.new }
     {
         self.call(rt, seat, Call::Downgrade(lock))
     }
@@ -232,8 +237,8 @@ impl<J: Room> Shared<J> {
         seat: &mut Seat<J>,
         lock: LockNo,
     ) -> Result<Reply, Fault>
-        ensures { Told J.start [] (λ s new. AnswersOrFails s seat.old.seat
-            (NoRelease lock) result new) seat.old seat.new }
+        ensures { Told J.start [] (λ before after. AnswersOrFails before seat.old.seat
+            (NoRelease lock) result after) seat.old seat.new }
     {
         self.call(rt, seat, Call::NoRelease(lock))
     }
@@ -248,8 +253,8 @@ impl<J: Room> Shared<J> {
         seat: &mut Seat<J>,
         lock: LockNo,
     ) -> Result<Reply, Fault>
-        ensures { Told J.start [] (λ s new. AnswersOrFails s seat.old.seat
-            (ReleaseOk lock) result new) seat.old seat.new }
+        ensures { Told J.start [] (λ before after. AnswersOrFails before seat.old.seat
+            (ReleaseOk lock) result after) seat.old seat.new }
     {
         self.call(rt, seat, Call::ReleaseOk(lock))
     }
@@ -259,8 +264,8 @@ impl<J: Room> Shared<J> {
     /// # Errors
     /// Those of `Verifier::destroy`.
     pub fn destroy<R: Wait>(&self, rt: &R, seat: &mut Seat<J>, lock: LockNo) -> Result<Reply, Fault>
-        ensures { Told J.start [] (λ s new. AnswersOrFails s seat.old.seat
-            (Destroy lock) result new) seat.old seat.new }
+        ensures { Told J.start [] (λ before after. AnswersOrFails before seat.old.seat
+            (Destroy lock) result after) seat.old seat.new }
     {
         self.call(rt, seat, Call::Destroy(lock))
     }
@@ -275,8 +280,8 @@ impl<J: Room> Shared<J> {
         seat: &mut Seat<J>,
         watch: Watch,
     ) -> Result<Reply, Fault>
-        ensures { Told J.start [] (λ s new. AnswersOrFails s seat.old.seat
-            (SetWatch watch) result new) seat.old seat.new }
+        ensures { Told J.start [] (λ before after. AnswersOrFails before seat.old.seat
+            (SetWatch watch) result after) seat.old seat.new }
     {
         self.call(rt, seat, Call::SetWatch(watch))
     }
@@ -292,8 +297,8 @@ impl<J: Room> Shared<J> {
         first: LockNo,
         second: LockNo,
     ) -> Result<Reply, Fault>
-        ensures { Told J.start [] (λ s new. AnswersOrFails s seat.old.seat
-            (DefineOrder first second) result new) seat.old seat.new }
+        ensures { Told J.start [] (λ before after. AnswersOrFails before seat.old.seat
+            (DefineOrder first second) result after) seat.old seat.new }
     {
         self.call(rt, seat, Call::DefineOrder(first, second))
     }
