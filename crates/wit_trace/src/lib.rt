@@ -5,8 +5,9 @@ mod replaying;
 mod status;
 
 pub use replaying::calls::{assertion, number_of, remark, warning};
-pub use replaying::frequent_lines::{LineReader, read_line};
+pub use replaying::frequent_lines::read_line;
 pub use replaying::line_calls::{LineCall, call_of, file_of, file_on_lock, lock_call};
+pub use replaying::line_reader::LineReader;
 pub use replaying::prelude::{Prelude, add_line, is_prelude, new_prelude, verifier_of};
 pub use replaying::{bad_text, replay, replay_through};
 pub use status::{BAD_TRACE, FAILED, NOTHING_REPORTED, REPORTED, status_of};

@@ -16,6 +16,7 @@ mod endings;
 mod entering;
 pub mod frequent_lines;
 pub mod line_calls;
+pub mod line_reader;
 pub mod prelude;
 mod reaching;
 mod views;

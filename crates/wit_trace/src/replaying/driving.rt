@@ -13,8 +13,8 @@ ghost use Rattle.wit_trace.specs.Replays.{GoesAsDue, IsRead, MayReadAt, reports_
 
 use crate::replaying::calls::{assertion, remark, text_of_reply, warning};
 use crate::replaying::driven::Driven;
-use crate::replaying::frequent_lines::LineReader;
 use crate::replaying::line_calls::{LineCall, call_of, file_of, file_on_lock, lock_call};
+use crate::replaying::line_reader::LineReader;
 use crate::replaying::views::show;
 use std::alloc::{AllocError, Global};
 use wit_grammar::{Begun, LineError, finish_line};

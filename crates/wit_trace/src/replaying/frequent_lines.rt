@@ -1,97 +1,22 @@
 //! Lines by their first word. Each of the frequent ones has a function of its own: nothing asks
 //! again what it is, and a line pays for no other's locals.
 
-ghost use Rattle.std.specs.Prelude.{◌≡◌, ℕ, List, true, IfOk, IfSome, Some};
-ghost use Rattle.wit_model.specs.Rules.Names.{is_file_name};
+ghost use Rattle.std.specs.Prelude.{◌≡◌, IfOk, Some};
 ghost use Rattle.wit_model.specs.declared.lines.Keyword.TheVariants as keyword;
 ghost use Rattle.wit_model.specs.declared.lines.Line.TheVariants.{OnLock};
 ghost use Rattle.wit_model.specs.declared.lines.LockLine.TheVariants.{Check};
 ghost use Rattle.wit_model.specs.declared.lines.Verb.TheVariants.{Note};
-ghost use Rattle.wit_model.specs.declared.locks.FileNo.{FileNo};
 ghost use Rattle.wit_model.specs.Trace.Reading.{line_of};
-ghost use Rattle.wit_grammar.specs.Lines.{Begins, as_line};
-ghost use Rattle.wit_stream.specs.declared.machine.Step.{Step};
-ghost use Rattle.wit_trace.specs.LineCalls.{Makes};
+ghost use Rattle.wit_grammar.specs.Lines.{Begins};
 
+use crate::replaying::line_reader::LineReader;
 use std::alloc::{AllocError, Global};
 use wit_grammar::{
     Begun, CheckFields, begin_any, behind_check, behind_free, behind_lock, behind_take,
     behind_unlock, check_fields, free_fields, lock_line, note_fields, take_fields, unlock_fields,
 };
-use wit_model::{Call, FileNo, Keyword, LockLine, RawStep, Request, SeatNo, Site, Verb};
+use wit_model::{Call, Keyword, LockLine, RawStep, Request, Site, Verb};
 use wit_stream::Step;
-
-/// What reads whole lines once the prelude is over. `may by x number line text` says that it may
-/// read this line, of which this text was told so far; `has by old number line new text step` that
-/// it did. `names x file number` says that a file has this number, and that to name it changes
-/// nothing.
-pub trait LineReader {
-    /// By what it shows what it reads.
-    type View: Copy;
-
-    ghost may: { Self.View → Self → ℕ → List ℕ → List ℕ → Type 0 };
-
-    ghost has: { Self.View → Self → ℕ → List ℕ → Self → List ℕ → Step → Type 0 };
-
-    ghost names: { Self → List ℕ → FileNo → Type 0 };
-
-    /// The file that was named last, which most sites name: its number and its name.
-    fn recent_file(&self) -> Option<(FileNo, &str)>
-        ensures name { IfSome result (λ f. is_file_name f.1.now ≡ true) }
-        ensures number { IfSome result (λ f. names self.now f.1.now f.0) };
-
-    /// A line that makes this call, which is logged.
-    ///
-    /// # Errors
-    /// Want of memory alone.
-    fn read_call(
-        &mut self,
-        alloc: Global,
-        view: Self::View,
-        number: u64,
-        bytes: &[u8],
-        seat: SeatNo,
-        call: Call,
-        text: &mut Vec<u8>,
-    ) -> Result<Step, AllocError>
-        requires ready { may view self.old number bytes.now text.old.items }
-        requires found { Makes (names self.old) bytes.now seat.0 call }
-        ensures { IfOk result (has view self.old number bytes.now self.new text.new.items) };
-
-    /// A line on a lock.
-    ///
-    /// # Errors
-    /// Want of memory alone.
-    fn read_on_lock(
-        &mut self,
-        alloc: Global,
-        view: Self::View,
-        number: u64,
-        bytes: &[u8],
-        line: LockLine<&str>,
-        text: &mut Vec<u8>,
-    ) -> Result<Step, AllocError>
-        requires ready { may view self.old number bytes.now text.old.items }
-        requires found { line_of bytes.now ≡ Some (as_line line) }
-        ensures { IfOk result (has view self.old number bytes.now self.new text.new.items) };
-
-    /// A line of any kind, of which the first word was read.
-    ///
-    /// # Errors
-    /// Want of memory alone.
-    fn read_any(
-        &mut self,
-        alloc: Global,
-        view: Self::View,
-        number: u64,
-        bytes: &[u8],
-        begun: Option<Begun<'_>>,
-        text: &mut Vec<u8>,
-    ) -> Result<Step, AllocError>
-        requires ready { may view self.old number bytes.now text.old.items }
-        requires begun { Begins begun (line_of bytes.now) }
-        ensures { IfOk result (has view self.old number bytes.now self.new text.new.items) };
-}
 
 /// Reads a line of the first version.
 ///
