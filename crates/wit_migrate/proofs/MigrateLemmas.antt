@@ -38,6 +38,7 @@ use Rattle.wit_migrate.specs.declared.migrating.Migrating.{Migrating}
 use Rattle.wit_stream.specs.declared.machine.Step as machine
 use Rattle.wit_stream.specs.declared.machine.Step.TheVariants as step
 use Rattle.wit_stream.specs.declared.summary.Summary.{Summary}
+use Rattle.wit_grammar.specs.declared.parse.TheConstants.{LONGEST}
 
 -- ---- lines that are written
 
@@ -224,22 +225,22 @@ line-refused old n line told bad r found summary text is sums none same lines ta
 -- a line that is read makes its call
 pub line-writes : (s : Story) (raw : List RawLock) (m n : ℕ) (bytes : List ℕ) (line : Line)
     (new : Moving) (text : List ℕ)
-    → length bytes ≤ 4096 → line_of bytes ≡ Some line
+    → length bytes ≤ LONGEST → line_of bytes ≡ Some line
     → Writes (moves s raw m bytes (call_of line)) new text
     → Writes (moving_outcome (Moved s raw m) n bytes) new text
 line-writes s raw m n bytes line new text short reads w = record {
   lines = w.lines;
-  goes = rw (le-ltb 4096 (length bytes) short, reads) w.goes;
+  goes = rw (le-ltb LONGEST (length bytes) short, reads) w.goes;
   written = w.written;
 }
 
 -- and what it comes to that is bad
 pub line-fails : (s : Story) (raw : List RawLock) (m n : ℕ) (bytes : List ℕ) (line : Line)
-    (cause : Cause) → length bytes ≤ 4096 → line_of bytes ≡ Some line
+    (cause : Cause) → length bytes ≤ LONGEST → line_of bytes ≡ Some line
     → moves s raw m bytes (call_of line) ≡ moving.Bad cause
     → moving_outcome (Moved s raw m) n bytes ≡ moving.Bad cause
 line-fails s raw m n bytes line cause short reads is =
-    rw (le-ltb 4096 (length bytes) short, reads) is
+    rw (le-ltb LONGEST (length bytes) short, reads) is
 
 -- the step that ends the migration
 pub ends-follow : (old new : Migrating) (n : ℕ) (line text : List ℕ) (summary : Summary)

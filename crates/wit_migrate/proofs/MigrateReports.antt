@@ -27,6 +27,7 @@ use Rattle.wit_model.specs.World.Moving.{step_before, step_behind, is_free_besid
 use Rattle.wit_model.specs.World.Scenes.{RawLock}
 use Rattle.wit_migrate.specs.Migrates.{Writes, moving_reports}
 use Rattle.wit_trace.proofs.CountLemmas.{CountsOne, calls_one, grown-le}
+use Rattle.wit_grammar.specs.declared.parse.TheConstants.{LONGEST}
 
 -- a line's outcome counts one at most
 abbrev MovesOne : ℕ → MovingOutcome → Type 0
@@ -94,7 +95,7 @@ entered_one (Moved s raw m) n bytes line = moves_one s raw m bytes (call_of line
 
 outcome_one : (m : Moving) (n : ℕ) (bytes : List ℕ)
     → MovesOne (moving_reports m) (moving_outcome m n bytes)
-outcome_one m n bytes = go (nat_lt 4096 (length bytes)) (line_of bytes)
+outcome_one m n bytes = go (nat_lt LONGEST (length bytes)) (line_of bytes)
   where
     go : (long : Bool) (o : Option Line)
         → MovesOne (moving_reports m) (cond long (Bad why.Long) (moving_read_as m n bytes o))

@@ -42,6 +42,7 @@ use Rattle.wit_model.specs.World.Scenes.{one_more, raw_after, raw_of, shares_amo
 use Rattle.wit_model.specs.World.Stages.{Stage}
 use Rattle.wit_model.proofs.Numbered.{with_number-none, with_number-or}
 use Rattle.wit_migrate.specs.Migrates.{Writes, lock_weight, weighed, weight}
+use Rattle.wit_grammar.specs.declared.parse.TheConstants.{LONGEST}
 
 -- ---- the shares of a lock
 
@@ -257,7 +258,7 @@ entered_weighs (Moved s raw m) n bytes line = moves_weighs s raw m bytes (call_o
 
 outcome_weighs : (m : Moving) (n : ℕ) (bytes : List ℕ)
     → WeighsOne (weighed m) (moving_outcome m n bytes)
-outcome_weighs m n bytes = go (nat_lt 4096 (length bytes)) (line_of bytes)
+outcome_weighs m n bytes = go (nat_lt LONGEST (length bytes)) (line_of bytes)
   where
     go : (long : Bool) (o : Option Line)
         → WeighsOne (weighed m) (cond long (Bad why.Long) (moving_read_as m n bytes o))
