@@ -2,6 +2,7 @@
 #![tactic(auto)]
 
 mod behind;
+mod calls;
 mod endings;
 mod headers;
 mod migrating;

@@ -8,10 +8,10 @@ ghost use Rattle.wit_model.specs.Trace.Reading.{line_of};
 ghost use Rattle.wit_model.specs.Trace.Moving.{moving_from, moving_outcome, moving_entered};
 ghost use Rattle.wit_model.specs.Trace.Moving as moving;
 ghost use Rattle.wit_migrate.specs.Again.{WritesTheSame};
-ghost use Rattle.wit_migrate.specs.Migrates.{IsOver, MayMove, HasMoved, MovesAsDue, Migrates};
+ghost use Rattle.wit_migrate.specs.Migrates.{MayMove, HasMoved, MovesAsDue, Migrates};
 ghost use Rattle.wit_migrate.specs.Migrates.{MigratesFrom};
 ghost use Rattle.wit_migrate.specs.Migrates.{ReachesLine, migrated, moved_to, moving_reports};
-ghost use Rattle.wit_migrate.specs.Migrates.{names_file, some_migration, weighed};
+ghost use Rattle.wit_migrate.specs.Migrates.{some_migration, weighed};
 ghost use Rattle.wit_stream.specs.Stream.{IsSpent, ReadsToEnd, WritesFront, WritesLines};
 ghost use Rattle.wit_stream.specs.Stream.{WritesOutput};
 
@@ -21,11 +21,10 @@ use crate::preludes::{self, Reached};
 use crate::texts::join;
 use std::alloc::{AllocError, Global};
 use std::io::{BufRead, Write};
-use std::mem;
 use wit_grammar::{Begun, LineError, begin_line, finish_line};
-use wit_model::{Call, Cause, FileNo, Line, LockLine, SeatNo};
+use wit_model::{Cause, Line};
 use wit_stream::{Failures, Machine, Pace, Ports, ReplayError, Step, Summary, run};
-use wit_trace::{LineReader, Prelude, read_line};
+use wit_trace::{Prelude, read_line};
 
 /// Reads a trace of the first version, and writes it as one of the second: its own lines, and
 /// between them the steps of the locks themselves that its calls need. A lock is taken before it is
@@ -187,7 +186,7 @@ impl Migrating {
 
     // A line of any kind, of which the first word was read.
     #[inline(never)]
-    fn any_line(
+    pub fn any_line(
         &mut self,
         alloc: Global,
         number: u64,
@@ -219,96 +218,6 @@ impl Migrating {
             ),
             Err(LineError::Memory) => Err(AllocError),
         }
-    }
-}
-
-// It reads lines so once the prelude is over.
-impl LineReader for Migrating {
-    // There is one way to write lines.
-    type View = ();
-
-    ghost may = { λ view m number line text. IsOver m × MayMove m number line text };
-
-    ghost has = { λ view old number line new text step. HasMoved old number line new text step };
-
-    ghost names = { names_file };
-
-    #[inline(always)]
-    fn recent_file(&self) -> Option<(FileNo, &str)> {
-        match self {
-            Migrating::Moved(behind) => behind.recent_file(),
-            Migrating::Unmoved | Migrating::Keeping { .. } => None,
-        }
-    }
-
-    // It makes its call at once.
-    #[inline(always)]
-    fn read_call(
-        &mut self,
-        alloc: Global,
-        _view: (),
-        number: u64,
-        bytes: &[u8],
-        seat: SeatNo,
-        call: Call,
-        text: &mut Vec<u8>,
-    ) -> Result<Step, AllocError> {
-        let Migrating::Moved(behind) = self else {
-            unreachable!();
-        };
-        let found = behind.summary();
-        let room = mem::replace(text, Vec::new(alloc));
-        match behind.log(room, seat, call, bytes) {
-            Ok(told) => {
-                *text = told;
-                Ok(Step::Goes)
-            }
-            Err(LineError::Bad(cause)) => {
-                self.ended_step(alloc, Vec::new(alloc), found, number, cause, text)
-            }
-            Err(LineError::Memory) => Err(AllocError),
-        }
-    }
-
-    // It makes its call at once.
-    #[inline(always)]
-    fn read_on_lock(
-        &mut self,
-        alloc: Global,
-        _view: (),
-        number: u64,
-        bytes: &[u8],
-        line: LockLine<&str>,
-        text: &mut Vec<u8>,
-    ) -> Result<Step, AllocError> {
-        let Migrating::Moved(behind) = self else {
-            unreachable!();
-        };
-        let found = behind.summary();
-        let room = mem::replace(text, Vec::new(alloc));
-        match behind.enter_on_lock(alloc, room, line, bytes) {
-            Ok(told) => {
-                *text = told;
-                Ok(Step::Goes)
-            }
-            Err(LineError::Bad(cause)) => {
-                self.ended_step(alloc, Vec::new(alloc), found, number, cause, text)
-            }
-            Err(LineError::Memory) => Err(AllocError),
-        }
-    }
-
-    #[inline(always)]
-    fn read_any(
-        &mut self,
-        alloc: Global,
-        _view: (),
-        number: u64,
-        bytes: &[u8],
-        begun: Option<Begun<'_>>,
-        text: &mut Vec<u8>,
-    ) -> Result<Step, AllocError> {
-        self.any_line(alloc, number, bytes, begun, text)
     }
 }
 

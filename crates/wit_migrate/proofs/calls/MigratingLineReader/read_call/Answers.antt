@@ -11,7 +11,7 @@ use Rattle.wit_migrate.proofs.MigrateReports.{moved_one}
 use Rattle.wit_migrate.proofs.NumberedLemmas.{line-numbered, moves-numbered}
 use Rattle.wit_migrate.proofs.StepLineLemmas.{read_call}
 use Rattle.wit_migrate.proofs.Weights.{moved_weighs}
-use Rattle.wit_migrate.proofs.migrating.MigratingLineReader.read_call.Goals as goal
+use Rattle.wit_migrate.proofs.calls.MigratingLineReader.read_call.Goals as goal
 
 pub log-requires-clause-line : goal.log-requires-clause-line
 log-requires-clause-line c =

@@ -5,7 +5,7 @@ use Rattle.wit_migrate.specs.Migrates.{standing}
 use Rattle.wit_migrate.proofs.MigrateLemmas.{line-goes, line-writes}
 use Rattle.wit_migrate.proofs.MigrateReports.{moved_one}
 use Rattle.wit_migrate.proofs.Weights.{moved_weighs}
-use Rattle.wit_migrate.proofs.migrating.MigratingLineReader.read_on_lock.Goals as goal
+use Rattle.wit_migrate.proofs.calls.MigratingLineReader.read_on_lock.Goals as goal
 
 pub returns-in-Ok : goal.returns-in-Ok
 returns-in-Ok c =
