@@ -4,8 +4,7 @@ use std::io;
 use std::io::Write;
 use std::test::Fail;
 use wit_demo::demo;
-use wit_model::View;
-use wit_trace::{REPORTED, status_of};
+use wit_stream::{ReplayError, Summary};
 
 const SHOWN: &str = "lock order reversal:
  1st \"B\" (B, sleep mutex) @ demo:3
@@ -17,12 +16,20 @@ orders 1
 reports 1
 ";
 
+/// Whether one report was told, and no bad line. To which status that comes is a case of `tests/`.
+fn is_reported(outcome: &Result<Summary, ReplayError>) -> bool {
+    match outcome {
+        Ok(summary) => summary.reports == 1 && summary.bad.is_none(),
+        Err(_) => false,
+    }
+}
+
 #[test]
 fn the_demonstration(rt: HostRuntime) -> Result<(), Fail> {
     let mut output = Vec::new(rt.alloc());
     let outcome = demo(&rt, rt.alloc(), &mut output);
     assert_eq!(rt; output.as_slice(), SHOWN.as_bytes());
-    assert_eq!(rt; status_of(View::Reports, &outcome), REPORTED);
+    assert!(rt; is_reported(&outcome));
     Ok(())
 }
 
@@ -54,7 +61,7 @@ fn the_demonstration_is_flushed(rt: HostRuntime) -> Result<(), Fail> {
         seen: 0,
     };
     let outcome = demo(&rt, rt.alloc(), &mut output);
-    assert_eq!(rt; status_of(View::Reports, &outcome), REPORTED);
+    assert!(rt; is_reported(&outcome));
     assert_eq!(rt; output.written.as_slice(), SHOWN.as_bytes());
     assert_eq!(rt; output.seen, SHOWN.len());
     Ok(())
