@@ -3,7 +3,7 @@
 ghost use Rattle.std.specs.Prelude.{◌≡◌, string_bytes, IfOk};
 ghost use Rattle.wit_model.specs.Trace.Output.{reply_text};
 
-use crate::verifiers::mutex;
+use crate::verifiers::{a_seat, mutex, run_within};
 use std::alloc::Global;
 use std::process::Abort;
 use std::sync::Wait;
@@ -11,7 +11,7 @@ use std::test::Fail;
 use wit_core::Verifier;
 use wit_model::{Fault, Limits, LockNo, Mode, OpFlags, Reply, SeatNo, Site};
 use wit_report::report_text;
-use wit_shared::{Look, Observer, Program, Room, Seat, Shared, share};
+use wit_shared::{Look, Observer, Program, Room, Seat, Shared};
 
 const REVERSAL: &str = "lock order reversal:
  1st \"b\" (b, sleep mutex) @ f:2
@@ -73,8 +73,8 @@ impl<R: Wait + Abort> Program<R> for Crossed {
     ghost done = { λ program out. Unit {0} };
 
     fn run<J: Room + Send + Sync>(self, rt: &R, shared: Shared<J>, _observers: Vec<Observer<J>>) {
-        let mut one = shared.seat(rt).ok().expect(rt, "a seat");
-        let mut two = shared.seat(rt).ok().expect(rt, "another seat");
+        let mut one = a_seat(rt, &shared);
+        let mut two = a_seat(rt, &shared);
         let file = shared.file(rt, &mut one, "f").ok().expect(rt, "a file");
         let a = mutex(rt, &shared, &mut one, "a");
         let b = mutex(rt, &shared, &mut one, "b");
@@ -100,11 +100,12 @@ impl<R: Wait + Abort> Program<R> for Crossed {
 #[test]
 fn circles_and_texts_while_it_is_shared(rt: HostRuntime) -> Result<(), Fail> {
     let alloc = rt.alloc();
-    let limits = Limits::new(2, 4, 4, 16, 64).expect(&rt, "limits");
-    let verifier = Verifier::new(alloc, limits, Vec::new(alloc), Vec::new(alloc))
-        .ok()
-        .expect(&rt, "memory for a verifier");
-    let ran = share(alloc, &rt, verifier, 0, Crossed { alloc });
-    assert!(rt; ran.is_ok(), "memory to share it");
+    run_within(
+        &rt,
+        alloc,
+        Limits::new(2, 4, 4, 16, 64),
+        0,
+        Crossed { alloc },
+    );
     Ok(())
 }

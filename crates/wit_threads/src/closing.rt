@@ -2,7 +2,7 @@
 
 ghost use Rattle.std.specs.Prelude.{◌≡◌};
 
-use crate::verifiers::{entries_of, mutex, opened};
+use crate::verifiers::{a_seat, closed_by_all, entries_of, mutex, named, opened, pair_of};
 use std::alloc::Global;
 use std::marker::Brand;
 use std::process::Abort;
@@ -10,8 +10,12 @@ use std::sync::Wait;
 use std::test::Fail;
 use std::thread::{Threads, join};
 use wit_core::Verifier;
-use wit_model::{LockNo, Mode, OpFlags, SeatNo, Site, Watch};
+use wit_model::{Limits, LockNo, Mode, OpFlags, SeatNo, Site, Watch};
 use wit_shared::{OpenedVerifier, Room, Seat, Shared};
+
+fn limits(seats: u32) -> Option<Limits> {
+    Limits::new(seats, 16, 64, 64, 4096)
+}
 
 /// Takes a mutex and lets it go, 50 times.
 fn take_50_times<J: Room, R: Wait + Abort>(
@@ -31,24 +35,6 @@ fn take_50_times<J: Room, R: Wait + Abort>(
     }
 }
 
-fn close<J: Room, R: Wait + Abort>(rt: &R, shared: Shared<J>, seats: Vec<Seat<J>>) -> Verifier {
-    match shared.close(rt, seats) {
-        Ok(verifier) => verifier,
-        Err(unclosed) => {
-            unclosed.abandon(rt);
-            panic!(rt; "a seat is missing")
-        }
-    }
-}
-
-/// Two seats in a list.
-fn pair_of<J: Room, R: Abort>(rt: &R, alloc: Global, one: Seat<J>, two: Seat<J>) -> Vec<Seat<J>> {
-    let mut seats = Vec::with_capacity(alloc, 2).ok().expect(rt, "memory");
-    seats.push_reserved(one);
-    seats.push_reserved(two);
-    seats
-}
-
 /// A close without the third seat hands everything back, and one with it gives the verifier.
 fn close_twice<J: Room, R: Wait + Abort>(
     rt: &R,
@@ -64,7 +50,7 @@ fn close_twice<J: Room, R: Wait + Abort>(
             assert_eq!(rt; seats.len(), 2);
             seats.reserve(1).ok().expect(rt, "memory");
             seats.push_reserved(third);
-            close(rt, shared, seats)
+            closed_by_all(rt, shared, seats)
         }
     }
 }
@@ -76,13 +62,10 @@ fn run<J: Room + Send + Sync, R: Threads + Wait + Abort + Sync>(
 ) -> Verifier
     requires { (opened.story.start ≡ J.start) × (opened.table ≡ J.table) × (opened.list ≡ J.list) }
 {
-    let (shared, _observers) = match opened.named::<J, R>(rt, 0) {
-        Ok(named) => named,
-        Err(_) => panic!(rt; "no memory to share it"),
-    };
-    let mut one = shared.seat(rt).ok().expect(rt, "a seat");
-    let mut two = shared.seat(rt).ok().expect(rt, "a seat");
-    let mut three = shared.seat(rt).ok().expect(rt, "a seat");
+    let shared = named::<R, J>(rt, opened);
+    let mut one = a_seat(rt, &shared);
+    let mut two = a_seat(rt, &shared);
+    let mut three = a_seat(rt, &shared);
     let file = shared.file(rt, &mut one, "f").ok().expect(rt, "a file");
     let site = Site { file, line: 1 };
     let first = mutex(rt, &shared, &mut one, "a");
@@ -99,7 +82,7 @@ fn run<J: Room + Send + Sync, R: Threads + Wait + Abort + Sync>(
 #[test]
 fn two_threads_log_and_all_seats_come_back(rt: HostRuntime) -> Result<(), Fail> {
     let alloc = rt.alloc();
-    let verifier = run::<Brand, HostRuntime>(&rt, alloc, opened(&rt, alloc, 3));
+    let verifier = run::<Brand, HostRuntime>(&rt, alloc, opened(&rt, alloc, limits(3)));
     assert_eq!(rt; verifier.history().len(), 302);
     assert_eq!(rt; entries_of(&verifier, SeatNo(1)), 2);
     assert_eq!(rt; entries_of(&verifier, SeatNo(2)), 150);
@@ -111,13 +94,10 @@ fn two_threads_log_and_all_seats_come_back(rt: HostRuntime) -> Result<(), Fail> 
 fn leave_seats<J: Room, R: Wait + Abort>(rt: &R, alloc: Global, opened: OpenedVerifier) -> Verifier
     requires { (opened.story.start ≡ J.start) × (opened.table ≡ J.table) × (opened.list ≡ J.list) }
 {
-    let (shared, _observers) = match opened.named::<J, R>(rt, 0) {
-        Ok(named) => named,
-        Err(_) => panic!(rt; "no memory to share it"),
-    };
-    let mut one = shared.seat(rt).ok().expect(rt, "a seat");
-    let mut two = shared.seat(rt).ok().expect(rt, "a seat");
-    let three = shared.seat(rt).ok().expect(rt, "a seat");
+    let shared = named::<R, J>(rt, opened);
+    let mut one = a_seat(rt, &shared);
+    let mut two = a_seat(rt, &shared);
+    let three = a_seat(rt, &shared);
     let file = shared.file(rt, &mut one, "f").ok().expect(rt, "a file");
     let lock = mutex(rt, &shared, &mut one, "a");
     take_50_times(rt, &shared, &mut two, lock, Site { file, line: 1 });
@@ -127,7 +107,7 @@ fn leave_seats<J: Room, R: Wait + Abort>(rt: &R, alloc: Global, opened: OpenedVe
 #[test]
 fn a_seat_that_logs_nothing_is_missed_and_no_other_one_is(rt: HostRuntime) -> Result<(), Fail> {
     let alloc = rt.alloc();
-    let verifier = leave_seats::<Brand, HostRuntime>(&rt, alloc, opened(&rt, alloc, 8));
+    let verifier = leave_seats::<Brand, HostRuntime>(&rt, alloc, opened(&rt, alloc, limits(8)));
     assert_eq!(rt; verifier.history().len(), 151);
     assert_eq!(rt; entries_of(&verifier, SeatNo(1)), 1);
     assert_eq!(rt; entries_of(&verifier, SeatNo(2)), 150);

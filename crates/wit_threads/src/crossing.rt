@@ -2,13 +2,13 @@
 
 ghost use Rattle.std.specs.Prelude.{◌≡◌};
 
-use crate::verifiers::{mutex, opened};
+use crate::verifiers::{a_seat, mutex, opened};
 use std::marker::Brand;
 use std::process::Abort;
 use std::sync::Wait;
 use std::test::Fail;
 use std::thread::{Threads, join};
-use wit_model::{LockNo, Reply, TypeNo};
+use wit_model::{Limits, LockNo, Reply, TypeNo};
 use wit_shared::{News, Observer, OpenedVerifier, Room, Seat, Shared};
 
 /// Defines the order from one mutex to another, and has news of it.
@@ -56,7 +56,7 @@ fn cross<J: Room + Send + Sync, R: Threads + Wait + Abort + Sync>(
     };
     let learns = observers.pop().expect(rt, "an observer");
     let looks = observers.pop().expect(rt, "another observer");
-    let mut seat = shared.seat(rt).ok().expect(rt, "a seat");
+    let mut seat = a_seat(rt, &shared);
     let first = mutex(rt, &shared, &mut seat, "A");
     let second = mutex(rt, &shared, &mut seat, "B");
     let watched = &shared;
@@ -69,7 +69,8 @@ fn cross<J: Room + Send + Sync, R: Threads + Wait + Abort + Sync>(
 
 #[test]
 fn news_cross_to_another_thread(rt: HostRuntime) -> Result<(), Fail> {
-    let (learnt, seen) = cross::<Brand, HostRuntime>(&rt, opened(&rt, rt.alloc(), 1));
+    let opened = opened(&rt, rt.alloc(), Limits::new(1, 16, 64, 64, 4096));
+    let (learnt, seen) = cross::<Brand, HostRuntime>(&rt, opened);
     assert_eq!(rt; learnt, (Some(true), Some(false), Some(1)));
     assert_eq!(rt; seen, (Some(true), Some(false), Some(1)));
     Ok(())

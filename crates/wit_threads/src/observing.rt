@@ -2,7 +2,7 @@
 
 ghost use Rattle.std.specs.Prelude.{◌≡◌};
 
-use crate::verifiers::mutex;
+use crate::verifiers::{a_seat, closed, mutex, run_within};
 use bitflags::Flags;
 use std::alloc::Global;
 use std::process::Abort;
@@ -28,19 +28,6 @@ fn take<J: Room, R: Wait + Abort>(
     let asked = shared.check(rt, seat, lock, Mode::Exclusive, ops, site);
     assert!(rt; shared.note(rt, seat, lock).is_ok(), "acquired");
     asked.ok().expect(rt, "asked for")
-}
-
-/// Closes it with its one seat.
-fn close<J: Room, R: Wait + Abort>(rt: &R, alloc: Global, shared: Shared<J>, seat: Seat<J>) {
-    let mut seats = Vec::with_capacity(alloc, 1).ok().expect(rt, "memory");
-    seats.push_reserved(seat);
-    match shared.close(rt, seats) {
-        Ok(_verifier) => {}
-        Err(unclosed) => {
-            unclosed.abandon(rt);
-            panic!(rt; "the seat is missing")
-        }
-    }
 }
 
 /// A further observer learns each of these, and knows the order from A to B.
@@ -86,7 +73,7 @@ impl<R: Wait + Abort> Program<R> for Adopted {
     ) {
         let mut looks = observers.pop().expect(rt, "an observer");
         let mut learns = observers.pop().expect(rt, "another observer");
-        let mut seat = shared.seat(rt).ok().expect(rt, "a seat");
+        let mut seat = a_seat(rt, &shared);
         let file = shared.file(rt, &mut seat, "f").ok().expect(rt, "a file");
         let a = mutex(rt, &shared, &mut seat, "A");
         let b = mutex(rt, &shared, &mut seat, "B");
@@ -102,7 +89,7 @@ impl<R: Wait + Abort> Program<R> for Adopted {
         assert_eq!(rt; learns.known(B, A), Some(false));
         assert_eq!(rt; learns.orders_seen(), Some(1));
         assert_eq!(rt; looks.known(A, B), Some(true));
-        close(rt, self.alloc, shared, seat);
+        closed(rt, self.alloc, shared, seat);
         assert_eq!(rt; learns.known(A, B), None);
         assert_eq!(rt; looks.orders_seen(), None);
     }
@@ -111,12 +98,13 @@ impl<R: Wait + Abort> Program<R> for Adopted {
 #[test]
 fn observers_answer_of_what_is_adopted(rt: HostRuntime) -> Result<(), Fail> {
     let alloc = rt.alloc();
-    let limits = Limits::new(1, 4, 4, 16, 64).expect(&rt, "limits");
-    let verifier = Verifier::new(alloc, limits, Vec::new(alloc), Vec::new(alloc))
-        .ok()
-        .expect(&rt, "memory for a verifier");
-    let ran = share(alloc, &rt, verifier, 2, Adopted { alloc });
-    assert!(rt; ran.is_ok(), "memory to share it");
+    run_within(
+        &rt,
+        alloc,
+        Limits::new(1, 4, 4, 16, 64),
+        2,
+        Adopted { alloc },
+    );
     Ok(())
 }
 
@@ -202,7 +190,7 @@ impl<R: Wait + Abort> Program<R> for Many {
     ) {
         let mut looks = observers.pop().expect(rt, "an observer");
         let mut learns = observers.pop().expect(rt, "another observer");
-        let mut seat = shared.seat(rt).ok().expect(rt, "a seat");
+        let mut seat = a_seat(rt, &shared);
         let mut last = mutex(rt, &shared, &mut seat, "1");
         for number in 2..=MANY {
             let name = format!(in self.alloc; "{number}").ok().expect(rt, "memory");
@@ -216,18 +204,19 @@ impl<R: Wait + Abort> Program<R> for Many {
         learns.learn(shared.news(rt, &mut seat));
         assert!(rt; knows_each(&mut learns), "what was learnt");
         assert!(rt; knows_each(&mut looks), "what is seen");
-        close(rt, self.alloc, shared, seat);
+        closed(rt, self.alloc, shared, seat);
     }
 }
 
 #[test]
 fn observers_answer_of_a_thousand_orders(rt: HostRuntime) -> Result<(), Fail> {
     let alloc = rt.alloc();
-    let limits = Limits::new(1, 1_023, 1_100, 16, 4_096).expect(&rt, "limits");
-    let verifier = Verifier::new(alloc, limits, Vec::new(alloc), Vec::new(alloc))
-        .ok()
-        .expect(&rt, "memory for a verifier");
-    let ran = share(alloc, &rt, verifier, 2, Many { alloc });
-    assert!(rt; ran.is_ok(), "memory to share it");
+    run_within(
+        &rt,
+        alloc,
+        Limits::new(1, 1_023, 1_100, 16, 4_096),
+        2,
+        Many { alloc },
+    );
     Ok(())
 }

@@ -14,7 +14,7 @@ use std::test::Fail;
 use std::thread::{self, Threads, join};
 use wit_gates::{CondGate, Gate, Met};
 use wit_locks::Mtx;
-use wit_model::{Fault, Mode, Site};
+use wit_model::{Fault, Limits, Mode, Site};
 use wit_shared::{OpenedVerifier, Room, Seat, Shared};
 
 // How often a thread looks whether the other one has got on.
@@ -181,7 +181,7 @@ fn a_gate_is_entered_outside_the_lock_of_the_verifier(rt: HostRuntime) -> Result
     let begun = wait_for_one_another::<Brand, HostRuntime>(
         &rt,
         alloc,
-        opened(&rt, alloc, 2, 64),
+        opened(&rt, alloc, Limits::new(2, 8, 16, 32, 64)),
         &signals,
     )?;
     assert!(rt; begun);

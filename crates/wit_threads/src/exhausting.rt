@@ -3,7 +3,7 @@
 ghost use Rattle.std.specs.Prelude.{◌≡◌};
 
 use crate::tokens::{let_go, taken};
-use crate::verifiers::{a_mutex, a_seat, a_site, closed_by_all, named, opened_within, pair_of};
+use crate::verifiers::{a_mutex, a_seat, a_site, closed_by_all, named, opened, pair_of};
 use std::alloc::Global;
 use std::marker::Brand;
 use std::process::Abort;
@@ -129,8 +129,7 @@ fn run_out<J: Room + Send + Sync, R: Threads + Wait + Abort + Sync>(
 #[test]
 fn chunks_run_out_in_a_thread(rt: HostRuntime) -> Result<(), Fail> {
     let alloc = rt.alloc();
-    let limits = Limits::new(2, 8, 16, 1, 64).expect(&rt, "limits");
-    let opened = opened_within(&rt, alloc, limits);
+    let opened = opened(&rt, alloc, Limits::new(2, 8, 16, 1, 64));
     let verifier = run_out::<Brand, HostRuntime>(&rt, alloc, opened);
     assert_eq!(rt; verifier.history().len(), 23);
     assert_eq!(rt; verifier.reports(), 1);

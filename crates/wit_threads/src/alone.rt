@@ -235,6 +235,12 @@ impl<R: Wait + Abort> Program<R> for Late {
 #[test]
 fn a_lock_with_a_large_number(rt: HostRuntime) -> Result<(), Fail> {
     let alloc = rt.alloc();
-    run_within(&rt, alloc, Limits::new(1, 8, 200, 32, 200), Late { alloc });
+    run_within(
+        &rt,
+        alloc,
+        Limits::new(1, 8, 200, 32, 200),
+        0,
+        Late { alloc },
+    );
     Ok(())
 }

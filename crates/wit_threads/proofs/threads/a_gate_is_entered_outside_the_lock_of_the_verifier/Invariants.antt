@@ -1,4 +1,4 @@
-use Rattle.wit_locks_tests.proofs.threads.a_gate_is_entered_outside_the_lock_of_the_verifier.Given as goal
+use Rattle.wit_threads.proofs.threads.a_gate_is_entered_outside_the_lock_of_the_verifier.Given as goal
 
 abbrev pub ghosts-wait_for_one_another-J-Naming : goal.ghosts-wait_for_one_another-J-Naming
 ghosts-wait_for_one_another-J-Naming g a = record { list = a.opened.list }

@@ -1,4 +1,4 @@
-use Rattle.wit_locks_tests.proofs.exhausting.chunks_run_out_in_a_thread.Given as goal
+use Rattle.wit_threads.proofs.exhausting.chunks_run_out_in_a_thread.Given as goal
 
 abbrev pub ghosts-run_out-J-Naming : goal.ghosts-run_out-J-Naming
 ghosts-run_out-J-Naming g a = record { list = a.opened.list }
