@@ -3,13 +3,13 @@
 ghost use Rattle.std.specs.Prelude.{◌≡◌, string_bytes, IfOk};
 ghost use Rattle.wit_model.specs.Trace.Output.{reply_text};
 
-use crate::verifiers::{a_seat, mutex, run_within};
+use crate::verifiers::{a_seat, a_site, ask, mutex, run_within, take};
 use std::alloc::Global;
 use std::process::Abort;
 use std::sync::Wait;
 use std::test::Fail;
 use wit_core::Verifier;
-use wit_model::{Fault, Limits, LockNo, Mode, OpFlags, Reply, SeatNo, Site};
+use wit_model::{Fault, Limits, Reply, SeatNo, Site};
 use wit_report::report_text;
 use wit_shared::{Look, Observer, Program, Room, Seat, Shared};
 
@@ -37,19 +37,6 @@ impl Look for Text<'_> {
     }
 }
 
-/// Asks for a mutex.
-fn ask<J: Room, R: Wait + Abort>(
-    rt: &R,
-    shared: &Shared<J>,
-    seat: &mut Seat<J>,
-    lock: LockNo,
-    site: Site,
-) -> Reply {
-    let ops = OpFlags::NEWORDER | OpFlags::FRESH;
-    let asked = shared.check(rt, seat, lock, Mode::Exclusive, ops, site);
-    asked.ok().expect(rt, "asked for")
-}
-
 /// The seats that wait for one another.
 fn circle<J: Room, R: Wait + Abort>(
     rt: &R,
@@ -57,6 +44,23 @@ fn circle<J: Room, R: Wait + Abort>(
     seat: &mut Seat<J>,
 ) -> Option<Vec<SeatNo>> {
     shared.wait_circle(rt, seat).ok().expect(rt, "memory")
+}
+
+/// Each of two seats takes a mutex and asks for that of the other; what the last one is told.
+fn cross<J: Room, R: Wait + Abort>(
+    rt: &R,
+    shared: &Shared<J>,
+    one: &mut Seat<J>,
+    two: &mut Seat<J>,
+) -> Reply {
+    let site = a_site(rt, shared, one);
+    let a = mutex(rt, shared, one, "a");
+    let b = mutex(rt, shared, one, "b");
+    take(rt, shared, one, a, site);
+    take(rt, shared, two, b, Site { line: 2, ..site });
+    ask(rt, shared, one, b, Site { line: 3, ..site });
+    assert!(rt; circle(rt, shared, two).is_none(), "one waits");
+    ask(rt, shared, two, a, Site { line: 4, ..site })
 }
 
 /// Two seats ask for one another's mutexes.
@@ -75,16 +79,7 @@ impl<R: Wait + Abort> Program<R> for Crossed {
     fn run<J: Room + Send + Sync>(self, rt: &R, shared: Shared<J>, _observers: Vec<Observer<J>>) {
         let mut one = a_seat(rt, &shared);
         let mut two = a_seat(rt, &shared);
-        let file = shared.file(rt, &mut one, "f").ok().expect(rt, "a file");
-        let a = mutex(rt, &shared, &mut one, "a");
-        let b = mutex(rt, &shared, &mut one, "b");
-        ask(rt, &shared, &mut one, a, Site { file, line: 1 });
-        assert!(rt; shared.note(rt, &mut one, a).is_ok(), "acquired");
-        ask(rt, &shared, &mut two, b, Site { file, line: 2 });
-        assert!(rt; shared.note(rt, &mut two, b).is_ok(), "acquired");
-        ask(rt, &shared, &mut one, b, Site { file, line: 3 });
-        assert!(rt; circle(rt, &shared, &mut two).is_none(), "one waits");
-        let reply = ask(rt, &shared, &mut two, a, Site { file, line: 4 });
+        let reply = cross(rt, &shared, &mut one, &mut two);
         let waiting = circle(rt, &shared, &mut one).expect(rt, "a circle");
         assert_eq!(rt; waiting.as_slice(), [SeatNo(1), SeatNo(2)].as_slice());
         let alloc = self.alloc;

@@ -2,7 +2,9 @@
 
 ghost use Rattle.std.specs.Prelude.{◌≡◌};
 
-use crate::verifiers::{a_seat, closed_by_all, entries_of, mutex, named, opened, pair_of};
+use crate::verifiers::{
+    a_seat, closed_by_all, entries_of, leave, mutex, named, opened, pair_of, take,
+};
 use std::alloc::Global;
 use std::marker::Brand;
 use std::process::Abort;
@@ -10,7 +12,7 @@ use std::sync::Wait;
 use std::test::Fail;
 use std::thread::{Threads, join};
 use wit_core::Verifier;
-use wit_model::{Limits, LockNo, Mode, OpFlags, SeatNo, Site, Watch};
+use wit_model::{Limits, LockNo, SeatNo, Site, Watch};
 use wit_shared::{OpenedVerifier, Room, Seat, Shared};
 
 fn limits(seats: u32) -> Option<Limits> {
@@ -26,12 +28,8 @@ fn take_50_times<J: Room, R: Wait + Abort>(
     site: Site,
 ) {
     for _ in 0..50 {
-        let ops = OpFlags::NEWORDER | OpFlags::FRESH;
-        let asked = shared.check(rt, seat, lock, Mode::Exclusive, ops, site);
-        assert!(rt; asked.is_ok(), "asked for");
-        assert!(rt; shared.note(rt, seat, lock).is_ok(), "acquired");
-        let freed = shared.unlock(rt, seat, lock, Mode::Exclusive);
-        assert!(rt; freed.is_ok(), "released");
+        take(rt, shared, seat, lock, site);
+        leave(rt, shared, seat, lock);
     }
 }
 

@@ -2,33 +2,18 @@
 
 ghost use Rattle.std.specs.Prelude.{◌≡◌};
 
-use crate::verifiers::{a_seat, closed, mutex, run_within};
-use bitflags::Flags;
+use crate::verifiers::{a_seat, closed, mutex, run_within, take};
 use std::alloc::Global;
 use std::process::Abort;
 use std::sync::Wait;
 use std::test::Fail;
 use wit_core::Verifier;
-use wit_model::{Class, Limits, LockNo, Mode, OpFlags, Reply, Site, TypeNo};
+use wit_model::{Class, Limits, Reply, Site, TypeNo};
 use wit_shared::{News, Observer, Program, Room, Seat, Shared, share};
 
 const A: TypeNo = TypeNo(1);
 
 const B: TypeNo = TypeNo(2);
-
-/// Asks for a mutex, and has it.
-fn take<J: Room, R: Wait + Abort>(
-    rt: &R,
-    shared: &Shared<J>,
-    seat: &mut Seat<J>,
-    lock: LockNo,
-    site: Site,
-) -> Reply {
-    let ops = OpFlags::NEWORDER | OpFlags::FRESH;
-    let asked = shared.check(rt, seat, lock, Mode::Exclusive, ops, site);
-    assert!(rt; shared.note(rt, seat, lock).is_ok(), "acquired");
-    asked.ok().expect(rt, "asked for")
-}
 
 /// A further observer learns each of these, and knows the order from A to B.
 fn observe_all<J: Room, R: Abort>(rt: &R, news: Vec<News<J>>) {

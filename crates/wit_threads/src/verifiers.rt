@@ -10,7 +10,7 @@ use std::sync::Wait;
 use wit_core::Verifier;
 use wit_gates::Gate;
 use wit_locks::Mtx;
-use wit_model::{Class, Limits, LockFlags, LockNo, SeatNo, Site};
+use wit_model::{Class, Limits, LockFlags, LockNo, Mode, OpFlags, Reply, SeatNo, Site};
 use wit_shared::{OpenedVerifier, Program, Room, Seat, Shared, share};
 
 fn verifier_within<R: Abort>(rt: &R, alloc: Global, limits: Option<Limits>) -> Verifier {
@@ -95,6 +95,43 @@ pub(crate) fn mutex<R: Wait + Abort, J: Room>(
         .init(rt, seat, name, None, Class::SleepMutex, LockFlags::empty())
         .ok()
         .expect(rt, "a mutex")
+}
+
+/// Asks for a mutex without a gate.
+pub(crate) fn ask<R: Wait + Abort, J: Room>(
+    rt: &R,
+    shared: &Shared<J>,
+    seat: &mut Seat<J>,
+    lock: LockNo,
+    site: Site,
+) -> Reply {
+    let ops = OpFlags::NEWORDER | OpFlags::FRESH;
+    let asked = shared.check(rt, seat, lock, Mode::Exclusive, ops, site);
+    asked.ok().expect(rt, "asked for")
+}
+
+/// Asks for it, and has it.
+pub(crate) fn take<R: Wait + Abort, J: Room>(
+    rt: &R,
+    shared: &Shared<J>,
+    seat: &mut Seat<J>,
+    lock: LockNo,
+    site: Site,
+) -> Reply {
+    let asked = ask(rt, shared, seat, lock, site);
+    shared.note(rt, seat, lock).ok().expect(rt, "acquired");
+    asked
+}
+
+/// Lets it go.
+pub(crate) fn leave<R: Wait + Abort, J: Room>(
+    rt: &R,
+    shared: &Shared<J>,
+    seat: &mut Seat<J>,
+    lock: LockNo,
+) {
+    let freed = shared.unlock(rt, seat, lock, Mode::Exclusive);
+    freed.ok().expect(rt, "released");
 }
 
 /// The verifier, once its only seat is given back.
