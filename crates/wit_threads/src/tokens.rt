@@ -42,13 +42,18 @@ pub(crate) fn let_go<R: Wait + Abort, J: Room, G: Gate>(
     released(rt, mutex.unlock(rt, shared, seat, held))
 }
 
+// Ends the test, whose call is refused.
+fn panic_of<R: Abort>(rt: &R, fault: Fault) -> ! {
+    panic!(rt; "refused: {fault}")
+}
+
 /// The token.
 pub(crate) fn granted<R: Abort, G: Gate>(rt: &R, answer: Result<Held<G>, Fault>) -> Held<G>
     ensures { answer ≡ Ok result }
 {
     match answer {
         Ok(held) => held,
-        Err(fault) => panic!(rt; "refused: {fault}"),
+        Err(fault) => panic_of(rt, fault),
     }
 }
 
@@ -61,7 +66,7 @@ pub(crate) fn not_granted<R: Abort, G: Gate>(
     match answer {
         Ok(held) => {
             abandon(held);
-            panic!(rt; "not refused")
+            rt.panic("not refused")
         }
         Err(fault) => assert_eq!(rt; fault, wanted),
     }
@@ -74,9 +79,9 @@ pub(crate) fn tried<R: Abort, G: Gate>(rt: &R, answer: Result<Option<Held<G>>, F
     match answer {
         Ok(held) => match held {
             Some(held) => held,
-            None => panic!(rt; "not tried successfully"),
+            None => rt.panic("not tried successfully"),
         },
-        Err(fault) => panic!(rt; "refused: {fault}"),
+        Err(fault) => panic_of(rt, fault),
     }
 }
 
@@ -86,11 +91,11 @@ pub(crate) fn shut<R: Abort, G: Gate>(rt: &R, answer: Result<Option<Held<G>>, Fa
         Ok(held) => match held {
             Some(held) => {
                 abandon(held);
-                panic!(rt; "the gate was entered")
+                rt.panic("the gate was entered")
             }
             None => {}
         },
-        Err(fault) => panic!(rt; "refused: {fault}"),
+        Err(fault) => panic_of(rt, fault),
     }
 }
 
@@ -102,7 +107,7 @@ pub(crate) fn kept<R: Abort, G: Gate>(rt: &R, answer: Result<Held<G>, (Held<G>, 
         Ok(held) => held,
         Err((held, fault)) => {
             abandon(held);
-            panic!(rt; "refused: {fault}")
+            panic_of(rt, fault)
         }
     }
 }
@@ -118,12 +123,12 @@ pub(crate) fn refused<R: Abort, G: Gate>(
     match answer {
         Ok(held) => {
             abandon(held);
-            panic!(rt; "not refused")
+            rt.panic("not refused")
         }
         Err((held, fault)) => {
             if fault != wanted {
                 abandon(held);
-                panic!(rt; "{fault}")
+                panic_of(rt, fault)
             }
             held
         }
@@ -140,11 +145,11 @@ pub(crate) fn left<R: Abort, G: Gate>(
     match answer {
         Ok(held) => match held {
             Some(held) => held,
-            None => panic!(rt; "released for good"),
+            None => rt.panic("released for good"),
         },
         Err((held, fault)) => {
             abandon(held);
-            panic!(rt; "refused: {fault}")
+            panic_of(rt, fault)
         }
     }
 }
@@ -159,12 +164,12 @@ pub(crate) fn released<R: Abort, G: Gate>(
             None => {}
             Some(held) => {
                 abandon(held);
-                panic!(rt; "still held")
+                rt.panic("still held")
             }
         },
         Err((held, fault)) => {
             abandon(held);
-            panic!(rt; "refused: {fault}")
+            panic_of(rt, fault)
         }
     }
 }
@@ -182,12 +187,12 @@ pub(crate) fn not_released<R: Abort, G: Gate>(
             if let Some(held) = held {
                 abandon(held);
             }
-            panic!(rt; "released")
+            rt.panic("released")
         }
         Err((held, fault)) => {
             if fault != wanted {
                 abandon(held);
-                panic!(rt; "{fault}")
+                panic_of(rt, fault)
             }
             held
         }
