@@ -3,8 +3,8 @@
 use crate::gates::Fickle;
 use std::alloc::Global;
 use std::sync::Wait;
-use wit_gates::SpinGate;
-use wit_locks::{Mtx, Rw, Spin, Sx};
+use wit_gates::{Gate, SpinGate};
+use wit_locks::{Kind, Lock, Mtx, Rw, Spin, Sx};
 use wit_model::{Fault, LockFlags, LockNo};
 use wit_shared::{Room, Seat, Shared};
 
@@ -34,67 +34,61 @@ pub(crate) fn make<J: Room, R: Wait>(
     number: u32,
     count: u32,
 ) -> Result<Watched<J>, Fault> {
-    let flags = LockFlags((number % 4) as u8);
-    let name = format!(in alloc; "lock {number}")?;
-    let name = name.as_str();
-    let part = number.wrapping_mul(7) % TYPES;
     if number >= count - count / 5 {
-        let type_name = format!(in alloc; "spin {part}")?;
-        let gate = SpinGate::new(alloc)?;
-        let made = Spin::new(
-            rt,
-            shared,
-            seat,
-            name,
-            Some(type_name.as_str()),
-            flags,
-            gate,
-        );
-        return made.map(Watched::Spin).map_err(|refused| refused.1);
+        let lock = lock_of(rt, alloc, shared, seat, number, "spin", spin_gate(alloc))?;
+        return Ok(Watched::Spin(lock));
     }
-    match number % 3 {
+    Ok(match number % 3 {
         0 => {
-            let type_name = format!(in alloc; "mutex {part}")?;
-            let gate = Fickle::new(alloc)?;
-            let made = Mtx::new(
-                rt,
-                shared,
-                seat,
-                name,
-                Some(type_name.as_str()),
-                flags,
-                gate,
-            );
-            made.map(Watched::Mutex).map_err(|refused| refused.1)
+            let lock = lock_of(rt, alloc, shared, seat, number, "mutex", Fickle::new(alloc))?;
+            Watched::Mutex(lock)
         }
         1 => {
-            let type_name = format!(in alloc; "rw {part}")?;
-            let gate = Fickle::new(alloc)?;
-            let made = Rw::new(
-                rt,
-                shared,
-                seat,
-                name,
-                Some(type_name.as_str()),
-                flags,
-                gate,
-            );
-            made.map(Watched::Rw).map_err(|refused| refused.1)
+            let lock = lock_of(rt, alloc, shared, seat, number, "rw", Fickle::new(alloc))?;
+            Watched::Rw(lock)
         }
         _ => {
-            let type_name = format!(in alloc; "sx {part}")?;
-            let gate = SpinGate::new(alloc)?;
-            let made = Sx::new(
-                rt,
-                shared,
-                seat,
-                name,
-                Some(type_name.as_str()),
-                flags,
-                gate,
-            );
-            made.map(Watched::Sx).map_err(|refused| refused.1)
+            let lock = lock_of(rt, alloc, shared, seat, number, "sx", spin_gate(alloc))?;
+            Watched::Sx(lock)
         }
+    })
+}
+
+fn spin_gate(alloc: Global) -> Result<SpinGate, Fault> {
+    Ok(SpinGate::new(alloc)?)
+}
+
+// A lock of one of the types of its class.
+fn lock_of<J: Room, R: Wait, G: Gate + Drop, K: Kind>(
+    rt: &R,
+    alloc: Global,
+    shared: &Shared<J>,
+    seat: &mut Seat<J>,
+    number: u32,
+    class: &str,
+    gate: Result<G, Fault>,
+) -> Result<Lock<J, G, K>, Fault> {
+    let name = format!(in alloc; "lock {number}")?;
+    let part = number.wrapping_mul(7) % TYPES;
+    let type_name = format!(in alloc; "{class} {part}")?;
+    let type_name = Some(type_name.as_str());
+    let flags = LockFlags((number % 4) as u8);
+    match Lock::new(rt, shared, seat, name.as_str(), type_name, flags, gate?) {
+        Ok(lock) => Ok(lock),
+        Err((_gate, fault)) => Err(fault),
+    }
+}
+
+// Takes a lock apart: its gate is left.
+fn gate_of<J: Room, R: Wait, G: Gate + Drop, K: Kind>(
+    rt: &R,
+    shared: &Shared<J>,
+    seat: &mut Seat<J>,
+    lock: Lock<J, G, K>,
+) -> Result<G, Fault> {
+    match lock.destroy(rt, shared, seat) {
+        Ok(gate) => Ok(gate),
+        Err((_lock, fault)) => Err(fault),
     }
 }
 
@@ -117,22 +111,20 @@ impl<J: Room> Watched<J> {
         seat: &mut Seat<J>,
     ) -> Result<bool, Fault> {
         match self {
-            Watched::Mutex(lock) => lock
-                .destroy(rt, shared, seat)
-                .map(|gate| gate.is_right())
-                .map_err(|refused| refused.1),
-            Watched::Spin(lock) => lock
-                .destroy(rt, shared, seat)
-                .map(|_gate| true)
-                .map_err(|refused| refused.1),
-            Watched::Rw(lock) => lock
-                .destroy(rt, shared, seat)
-                .map(|gate| gate.is_right())
-                .map_err(|refused| refused.1),
-            Watched::Sx(lock) => lock
-                .destroy(rt, shared, seat)
-                .map(|_gate| true)
-                .map_err(|refused| refused.1),
+            Watched::Mutex(lock) => is_right(gate_of(rt, shared, seat, lock)),
+            Watched::Rw(lock) => is_right(gate_of(rt, shared, seat, lock)),
+            Watched::Spin(lock) => is_gone(gate_of(rt, shared, seat, lock)),
+            Watched::Sx(lock) => is_gone(gate_of(rt, shared, seat, lock)),
         }
     }
+}
+
+fn is_right(gate: Result<Fickle, Fault>) -> Result<bool, Fault> {
+    Ok(gate?.is_right())
+}
+
+// A plain gate is always right.
+fn is_gone(gate: Result<SpinGate, Fault>) -> Result<bool, Fault> {
+    let _gate = gate?;
+    Ok(true)
 }

@@ -5,7 +5,7 @@ ghost use Rattle.std.specs.Prelude.{◌≤◌, IfSome};
 use std::rt::Env;
 
 /// How much is done, and from which seed.
-#[derive(Clone, Copy, Debug)]
+#[derive(Clone, Copy)]
 pub(crate) struct Plan {
     /// How many threads, each with a seat.
     pub(crate) threads: u16,

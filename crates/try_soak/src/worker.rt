@@ -75,7 +75,7 @@ pub(crate) enum Made {
 }
 
 /// Such calls of a seat, one after the other.
-#[derive(Clone, Copy, Debug, Default, PartialEq, Eq)]
+#[derive(Clone, Copy, Default, PartialEq, Eq)]
 pub(crate) struct List {
     /// How many there are.
     pub(crate) calls: u64,
@@ -101,7 +101,7 @@ impl List {
 }
 
 /// What a thread counts.
-#[derive(Clone, Copy, Debug)]
+#[derive(Clone, Copy)]
 pub(crate) struct Tally {
     /// Its accepted calls of those kinds.
     pub(crate) list: List,
