@@ -42,7 +42,7 @@ pub fn check_fields<'a>(known: Option<(FileNo, &str)>, bytes: &'a [u8]) -> Optio
     requires { IfSome known (λ k. is_file_name k.1.now ≡ true) }
     ensures read { GivesIfFound
         (λ fields. OnLock (Check fields.seat fields.lock fields.mode fields.ops fields.file.now
-            fields.line)) result
+        fields.line)) result
         (fields_of keyword.Check bytes.now) }
     ensures known { IfSome result (λ fields.
         IfSome fields.number (IsKnownAs known.entry fields.file.now)) }

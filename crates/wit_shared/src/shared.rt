@@ -155,7 +155,7 @@ impl<J: Room> Shared<J> {
     ) -> Result<Reply, Fault>
         ensures told { Told J.start []
             (λ before after. AnswersOrFails before seat.old.seat
-                (NoteTry lock mode site) result after)
+            (NoteTry lock mode site) result after)
             seat.old seat.new }
         ensures file { HasFile seat.old.given site.file → result ≢ Err UnknownFile }
     {
