@@ -29,6 +29,14 @@ impl Verifier {
         self.seats.pending(seat)
     }
 
+    // What a seat that there is has asked for.
+    fn request_of(&self, seat: SeatNo) -> Option<Request>
+        requires { is_seat (state_of self.now) seat.0 ≡ true }
+        ensures { result ≡ (seat_at (state_of self.now) seat.0).pending }
+    {
+        self.seats.request_of(seat)
+    }
+
     // Whether some seat holds a lock or asks for it.
     pub(crate) fn is_used(&self, lock: LockNo) -> bool
         ensures { result ≡ is_used (state_of self.now) lock.0 }
@@ -96,7 +104,7 @@ impl Verifier {
         if !self.is_seat(seat) {
             return Err(Fault::UnknownSeat);
         }
-        if self.request(seat).is_some() {
+        if self.request_of(seat).is_some() {
             return Err(Fault::Pending);
         }
         Ok(())
@@ -141,7 +149,7 @@ impl Verifier {
         if !mode.is_exclusive() && !self.class_of_lock(lock).is_shareable() {
             return Err(Fault::ModeNotAllowed);
         }
-        if self.request(seat).is_some() {
+        if self.request_of(seat).is_some() {
             return Err(Fault::Pending);
         }
         if self.is_too_deep(seat, lock) {
@@ -158,7 +166,7 @@ impl Verifier {
         ensures err { IfErr result (Refuses (before_naming (state_of self.now) seat.0 lock.0)) }
     {
         self.about_lock(seat, lock)?;
-        if self.request(seat).is_some() {
+        if self.request_of(seat).is_some() {
             return Err(Fault::Pending);
         }
         Ok(())
@@ -171,7 +179,7 @@ impl Verifier {
         ensures err { IfErr result (Refuses (before_answering (state_of self.now) seat.0 lock.0)) }
     {
         self.about_lock(seat, lock)?;
-        match self.request(seat) {
+        match self.request_of(seat) {
             Some(request) if request.lock.0 == lock.0 => Ok(request),
             _ => Err(Fault::NotRequested),
         }

@@ -1,6 +1,6 @@
 -- What an acquisition, a release and a turn of a lock that stands once make of the lists.
 use Rattle.std.proofs.Common.{◌≡◌, ℕ, ◌-◌, ◌<◌, ◌≤◌, Bool, true, false, not, ◌&&◌, cond, nat_lt}
-use Rattle.std.proofs.Common.{List, [], ◌∷◌, length, map, find, position, set, get_or, Option, None}
+use Rattle.std.proofs.Common.{List, [], ◌∷◌, length, map, find, position, set, get_or, None}
 use Rattle.std.proofs.Common.{Some, is_some, unwrap_or, refl, ap, sym, ◌∙◌, arith}
 use Rattle.std.specs.List.{remove}
 use Rattle.std.proofs.lemmas.Bool.{lt-ltb, le-ltb, true≢false, ltb-true, ltb-false}

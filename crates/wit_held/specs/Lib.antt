@@ -1,7 +1,6 @@
 pub mod Chains
 pub mod Kept
 pub mod Marks
-pub mod Releases
 pub mod Rows
 pub mod Spots
 pub mod Warned

@@ -10,12 +10,11 @@ ghost use Rattle.wit_model.specs.Rules.Verdict.{is_of};
 ghost use Rattle.wit_model.specs.Rules.Chunks.{IsList, IsPlaced, chain_of};
 ghost use Rattle.wit_model.specs.Rules.Step.{released};
 ghost use Rattle.wit_held.specs.Chains.{IsOnce, after_forget};
-ghost use Rattle.wit_held.specs.Releases.{release_reply};
 ghost use Rattle.wit_held.specs.Spots.{IsThere};
 
 use crate::spots::{Found, find_held};
 use wit_model::chunks::Lists;
-use wit_model::{Fault, Instance, LockNo, Mode, Watch};
+use wit_model::{Fault, Instance, LockNo, Mode, Reply, Watch};
 
 /// Takes an acquisition back in a list that holds the lock once at most: its count falls by one, or
 /// it goes out where its count is 0. Nothing is changed where the list doesn't hold it.
@@ -32,8 +31,8 @@ pub fn forget<L: Lists>(lists: &mut L, list: u16, lock: LockNo)
 }
 
 /// Records a release in this mode in a list that holds the lock once at most: an acquisition is
-/// taken back as by `forget`. Where not everything is watched, any release of a held lock is
-/// recorded, and one of another lock is passed over: false.
+/// taken back as by `forget`, which is `Unlocked`. Where not everything is watched, any release of
+/// a held lock is recorded, and one of another lock is passed over, which is `Ignored`.
 ///
 /// # Errors
 /// Where everything is watched, and then nothing is changed: `NotLocked`; `SharedUnlock` and
@@ -45,16 +44,16 @@ pub fn release<L: Lists>(
     lock: LockNo,
     mode: Mode,
     watch: Watch,
-) -> Result<bool, Fault>
+) -> Result<Reply, Fault>
     requires list { IsList (L.chunks lists.old) list }
     requires once { IsOnce lock.0 (chain_of (L.chunks lists.old) list) }
-    ensures result { release_reply result
+    ensures result { result
         ≡ released watch mode (find (is_of lock.0) (chain_of (L.chunks lists.old) list)) }
-    ensures groups { result ≡ Ok true → (L.chunks lists.new).groups
+    ensures groups { result ≡ Ok Unlocked → (L.chunks lists.new).groups
         ≡ after_forget (L.chunks lists.old) list lock.0 }
     ensures size { (L.chunks lists.new).size ≡ (L.chunks lists.old).size }
     ensures placed { IsPlaced (L.chunks lists.old) → IsPlaced (L.chunks lists.new) }
-    ensures unchanged { result ≢ Ok true → L.chunks lists.new ≡ L.chunks lists.old }
+    ensures unchanged { result ≢ Ok Unlocked → L.chunks lists.new ≡ L.chunks lists.old }
 {
     let Some(there) = find_held(&*lists, list, lock) else {
         return release_of_none(watch);
@@ -63,7 +62,7 @@ pub fn release<L: Lists>(
         judge_release(there.held, mode)?;
     }
     take_back(lists, list, there);
-    Ok(true)
+    Ok(Reply::Unlocked)
 }
 
 // Takes one acquisition of the lock that stands there back: its list holds it once.
@@ -86,11 +85,11 @@ fn take_back<L: Lists>(lists: &mut L, list: u16, there: Found)
 }
 
 // What a release of a lock that isn't held comes to.
-fn release_of_none(watch: Watch) -> Result<bool, Fault>
-    ensures { (mode : Mode) → release_reply result ≡ released watch mode None }
+fn release_of_none(watch: Watch) -> Result<Reply, Fault>
+    ensures { (mode : Mode) → result ≡ released watch mode None }
 {
     if !watch.is_on() {
-        return Ok(false);
+        return Ok(Reply::Ignored);
     }
     Err(Fault::NotLocked)
 }

@@ -16,7 +16,7 @@ mod shared;
 pub use closing::Unclosed;
 pub use law::law_closed_logs_add_up;
 pub use looking::Look;
-pub use opening::{OpenedVerifier, Reason, Unopened};
+pub use opening::{MOST_OBSERVERS, OpenedVerifier, Reason, Unopened};
 pub use program::{Program, Refused, share};
 pub use shared::Shared;
 pub use wit_observers::{News, Observer};

@@ -2,6 +2,7 @@
 
 ghost use Rattle.std.specs.Prelude.{◌≡◌, ◌≤◌, ◌<◌, ◌^◌, [], IfOk, IfErr, replicate};
 ghost use Rattle.wit_shared.specs.declared.opening.Reason.TheVariants.{OutOfMemory};
+ghost use Rattle.wit_shared.specs.declared.opening.TheConstants.{MOST_OBSERVERS};
 ghost use Rattle.wit_shared.specs.Opening.{why_refused};
 ghost use Rattle.wit_shared.specs.Publishing.{adoptions, published};
 
@@ -14,6 +15,9 @@ use std::sync::Wait;
 use wit_core::Verifier;
 use wit_observers::{Observer, Publisher};
 use wit_seats::Room;
+
+/// The most observers that a shared verifier has.
+pub const MOST_OBSERVERS: u16 = 256;
 
 // Places to look from, beside two for each observer, for news on their way.
 const NEWS: usize = 64;
@@ -133,8 +137,8 @@ impl OpenedVerifier {
         }
     }
 
-    /// The shared verifier, under a name, and this many observers, 256 at most, each of whom knows
-    /// the listed orders.
+    /// The shared verifier, under a name, and this many observers, `MOST_OBSERVERS` at most, each of
+    /// whom knows the listed orders.
     ///
     /// # Errors
     /// `OutOfMemory`; the verifier comes back.
@@ -145,7 +149,7 @@ impl OpenedVerifier {
     ) -> Result<(Shared<J>, Vec<Observer<J>>), Unopened>
         requires name { (self.story.start ≡ J.start) × (self.table ≡ J.table)
             × (self.list ≡ J.list) }
-        requires few { observers ≤ 256 }
+        requires few { observers ≤ MOST_OBSERVERS }
         ensures ok { IfOk result (λ s. s.1.items ≡ replicate observers (adoptions J.start [])) }
         ensures err { IfErr result (λ u. (u.verifier ≡ self.story) × (u.reason ≡ OutOfMemory)) }
     {

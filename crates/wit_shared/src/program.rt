@@ -3,6 +3,7 @@
 ghost use Rattle.std.specs.Prelude.{◌≡◌, ℕ, ◌≤◌, [], IfOk, IfErr, length, replicate};
 ghost use Rattle.wit_model.specs.Rules.State.{Start};
 ghost use Rattle.wit_shared.specs.declared.opening.Reason.TheVariants.{OutOfMemory};
+ghost use Rattle.wit_shared.specs.declared.opening.TheConstants.{MOST_OBSERVERS};
 ghost use Rattle.wit_shared.specs.Opening.{why_refused};
 ghost use Rattle.wit_shared.specs.Publishing.{adoptions};
 
@@ -60,7 +61,7 @@ fn run_as<J: Room + Send + Sync, R: Wait, S: Program<R>>(
 ) -> Result<S::Out, Refused<S>>
     requires name { (opened.story.start ≡ J.start) × (opened.table ≡ J.table)
         × (opened.list ≡ J.list) }
-    requires few { observers ≤ 256 }
+    requires few { observers ≤ MOST_OBSERVERS }
     requires suits { S.suits program opened.story.start observers }
     ensures ok { IfOk result (λ out. S.done program out) }
     ensures err { IfErr result (λ r. (r.verifier ≡ opened.story) × (r.program ≡ program)
@@ -77,7 +78,7 @@ fn run_as<J: Room + Send + Sync, R: Wait, S: Program<R>>(
 }
 
 /// Runs a program with a verifier that has logged nothing, shared, and with this many observers,
-/// 256 at most, both of which suit it.
+/// `MOST_OBSERVERS` at most, both of which suit it.
 ///
 /// # Errors
 /// `HasEntries` where it has, else `OutOfMemory`; the verifier and the program come back.
@@ -88,7 +89,7 @@ pub fn share<R: Wait, S: Program<R>>(
     observers: u16,
     program: S,
 ) -> Result<S::Out, Refused<S>>
-    requires few { observers ≤ 256 }
+    requires few { observers ≤ MOST_OBSERVERS }
     requires suits { S.suits program verifier.start observers }
     ensures ok { IfOk result (λ out. S.done program out) }
     ensures err { IfErr result (λ r. (r.verifier ≡ verifier) × (r.program ≡ program)

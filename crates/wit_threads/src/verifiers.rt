@@ -2,6 +2,7 @@
 
 ghost use Rattle.std.specs.Prelude.{◌≡◌, ◌≤◌};
 ghost use Rattle.wit_model.specs.Rules.State.{Start};
+ghost use Rattle.wit_shared.specs.declared.opening.TheConstants.{MOST_OBSERVERS};
 
 use bitflags::Flags;
 use std::alloc::Global;
@@ -41,7 +42,7 @@ pub(crate) fn run_within<R: Wait + Abort, S: Program<R> + Drop>(
     observers: u16,
     program: S,
 ) -> S::Out
-    requires few { observers ≤ 256 }
+    requires few { observers ≤ MOST_OBSERVERS }
     requires suits { (start : Start) → S.suits program start observers }
 {
     share(

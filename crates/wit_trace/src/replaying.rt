@@ -172,13 +172,15 @@ impl Machine for Replaying {
         text: &mut Vec<u8>,
     ) -> Result<Step, AllocError> {
         let view = self.view;
-        if let Progress::Reading(driving) = &mut self.progress {
-            return read_line(driving, alloc, view, number, bytes, text);
+        match &mut self.progress {
+            Progress::Reading(driving) => read_line(driving, alloc, view, number, bytes, text),
+            Progress::Stepping(driving) => {
+                read_step_line(driving, alloc, view, number, bytes, text)
+            }
+            Progress::Unstarted | Progress::Opening(_) => {
+                self.opening_line(alloc, number, bytes, text)
+            }
         }
-        if let Progress::Stepping(driving) = &mut self.progress {
-            return read_step_line(driving, alloc, view, number, bytes, text);
-        }
-        self.opening_line(alloc, number, bytes, text)
     }
 
     fn broken(

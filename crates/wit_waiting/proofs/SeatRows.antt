@@ -25,6 +25,19 @@ use Rattle.wit_waiting.specs.declared.seats.Seats.TheInside.{Inside}
 use Rattle.wit_waiting.proofs.SeatLists.{map-alike, get_or-nils, seat_with, seats-count, seat-is}
 use Rattle.wit_waiting.proofs.SeatLists.{groups-is, request-set, list-given, list-set, free-by}
 
+pub given-tested : (r : Seating) (t : ℕ) → is_given r.seats t ≡ true → IsGiven r.seats t
+given-tested r t is =
+    let parts = and_parts (nat_lt 0 t) (nat_le t (length r.seats)) is in
+    let some = ltb-true 0 t parts.0 in
+    let within = leb-true t (length r.seats) parts.1 in
+    (omega (arith, some), omega (arith, within))
+
+pub no_request-now : (r : Seating) (t : ℕ) → is_given r.seats t ≡ false
+    → None ≡ (seat_in r t).pending
+no_request-now r t none =
+    sym (ap (λ (s : Option Holdings). (unwrap_or s no_holdings).pending)
+    (with_number-none r.seats t none))
+
 -- what a method reads, by what its caller sees
 module _ (o : Inside) (r : Seating) (seen : seating_in o ≡ r) where
   pub count-now : length r.seats ≡ length o.requests.items
@@ -35,18 +48,6 @@ module _ (o : Inside) (r : Seating) (seen : seating_in o ≡ r) where
   is_seat-now t n len some =
       sym (ap (λ m. nat_lt 0 t && nat_le t m) (count-now ∙ sym len)
       ∙ ap (λ b. b && nat_le t n) (lt-ltb 0 t some))
-
-  pub given-tested : (t : ℕ) → is_given r.seats t ≡ true → IsGiven r.seats t
-  given-tested t is =
-      let parts = and_parts (nat_lt 0 t) (nat_le t (length r.seats)) is in
-      let some = ltb-true 0 t parts.0 in
-      let within = leb-true t (length r.seats) parts.1 in
-      (omega (arith, some), omega (arith, within))
-
-  pub no_request-now : (t : ℕ) → is_given r.seats t ≡ false → None ≡ (seat_in r t).pending
-  no_request-now t none =
-      sym (ap (λ (s : Option Holdings). (unwrap_or s no_holdings).pending)
-      (with_number-none r.seats t none))
 
   module _ (k : AreSeated o) (t : ℕ) (given : IsGiven r.seats t) where
     given-in : IsGiven (seats_by o.lists o.requests.items) t

@@ -1,6 +1,6 @@
 -- Whether a seat holds a lock or asks for it, and whether some seat has a property.
 use Rattle.std.proofs.Common.{◌||◌, ◌≡◌, ℕ, ◌+◌, ◌-◌, ◌<◌, ◌≤◌, Bool, true, false, cond, List, []}
-use Rattle.std.proofs.Common.{◌∷◌, Option, Some, None, length, get_or, drop, find, is_some, refl}
+use Rattle.std.proofs.Common.{◌∷◌, Option, Some, length, get_or, drop, find, is_some, refl}
 use Rattle.std.proofs.Common.{sym, ap, ◌∙◌, arith}
 use Rattle.std.specs.List.{list_any}
 use Rattle.std.proofs.lemmas.List.{drop_all, drop_more}

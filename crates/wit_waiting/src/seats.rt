@@ -2,6 +2,7 @@
 
 ghost use Rattle.std.specs.Prelude.{◌≡◌, ◌≢◌, true, false, not, find, is_some, slice_get};
 ghost use Rattle.std.specs.Prelude.{replicate, Ok, IfOk, IfErr, None, Some};
+ghost use Rattle.wit_model.specs.declared.calls.Reply.TheVariants.{Unlocked};
 ghost use Rattle.wit_model.specs.declared.faults.Fault.TheVariants.{OutOfMemory};
 ghost use Rattle.wit_model.specs.declared.sizes.TheConstants.Limits.{MOST_CHUNKS, MOST_SEATS};
 ghost use Rattle.wit_model.specs.Rules.Chunks.{IsList, IsPlaced, chain_of};
@@ -12,7 +13,6 @@ ghost use Rattle.wit_model.specs.Rules.Step.{is_for, released};
 ghost use Rattle.wit_model.specs.Rules.Destroying.{uses};
 ghost use Rattle.std.specs.List.{list_any};
 ghost use Rattle.wit_held.specs.Chains.{IsOnce, IsShallow, is_unrecorded, after_record};
-ghost use Rattle.wit_held.specs.Releases.{release_reply};
 ghost use Rattle.wit_waiting.specs.Seats.{seat_view};
 ghost use Rattle.wit_waiting.specs.Seats.{Holdings, idle_seating, seat_in, locks_in, free_in};
 ghost use Rattle.wit_waiting.specs.Seats.{with_seat, having_released, has_no_room};
@@ -25,7 +25,9 @@ use std::alloc::{AllocError, Global};
 use std::marker::Model;
 use wit_held::{assert_is, held, oldest_held, record, record_new, release};
 use wit_model::chunks::{Lists, list_of};
-use wit_model::{AssertAnswer, Fault, Instance, LockAssert, LockNo, Mode, Request, SeatNo, Watch};
+use wit_model::{
+    AssertAnswer, Fault, Instance, LockAssert, LockNo, Mode, Reply, Request, SeatNo, Watch,
+};
 use wit_pool::Pool;
 
 /// The lists in which the seats hold their locks.
@@ -84,10 +86,18 @@ impl Seats {
         ensures { result ≡ (seat_in self.now seat.0).pending }
     {
         if self.is_seat(seat) {
-            self.requests[seat.0 as usize - 1]
+            self.request_of(seat)
         } else {
             None
         }
+    }
+
+    /// What a seat that there is has asked for.
+    pub fn request_of(&self, seat: SeatNo) -> Option<Request>
+        requires { IsGiven self.now.seats seat.0 }
+        ensures { result ≡ (seat_in self.now seat.0).pending }
+    {
+        self.requests[seat.0 as usize - 1]
     }
 
     /// The lists: `list_of` numbers them. Each chunk stands once in one of them or among the free
@@ -140,7 +150,7 @@ impl Seats {
         if self.holds(seat, true, lock) {
             return true;
         }
-        is_for(lock, self.pending(seat))
+        is_for(lock, self.request_of(seat))
     }
 
     // Whether a seat holds a lock of this kind.
@@ -223,14 +233,14 @@ impl Seats {
         lock: LockNo,
         mode: Mode,
         watch: Watch,
-    ) -> Result<bool, Fault>
+    ) -> Result<Reply, Fault>
         requires seat { IsGiven self.old.seats seat.0 }
         requires once { IsOnce lock.0 (locks_in spin (seat_in self.old seat.0)) }
-        ensures result { release_reply result ≡ released watch mode
+        ensures result { result ≡ released watch mode
             (find (is_of lock.0) (locks_in spin (seat_in self.old seat.0))) }
-        ensures seats { result ≡ Ok true
+        ensures seats { result ≡ Ok Unlocked
             → self.new ≡ with_seat seat.0 (having_released spin lock.0) self.old }
-        ensures unchanged { result ≢ Ok true → self.new ≡ self.old }
+        ensures unchanged { result ≢ Ok Unlocked → self.new ≡ self.old }
     {
         self.unheld = None;
         release(&mut self.lists, list_of(seat, spin), lock, mode, watch)

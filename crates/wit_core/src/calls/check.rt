@@ -33,6 +33,13 @@ use wit_model::{
 // So many locks of each seat, on average, are few.
 const FEW_LOCKS: u32 = 16;
 
+// The verdict on a request, and what its lock allows.
+#[derive(Drop)]
+struct Judged {
+    verdict: Verdict,
+    flags: LockFlags,
+}
+
 // Whether a check that is answered so teaches orders.
 fn teaches(reply: &Reply) -> bool
     ensures yes { (q : Request) → result ≡ true → adopted (Check q) reply.now ≢ [] }
@@ -94,11 +101,11 @@ impl Verifier {
         ensures prepared { IsPrepared self.old seat.0 (Check request) → IsOk result }
     {
         if !self.is_ready(seat, Plan::Check(request)) {
-            let verdict = self.judge(seat, request)?;
-            if let Verdict::Pass = verdict {
-                return self.pass(seat, request);
+            let judged = self.judge(seat, request)?;
+            if let Verdict::Pass = judged.verdict {
+                return self.pass(seat, request, judged.flags);
             }
-            let _reply = self.ready_verdict(seat, request, verdict)?;
+            let _reply = self.ready_verdict(seat, request, judged.verdict)?;
         }
         Ok(self.enter_check(seat, request))
     }
@@ -107,11 +114,11 @@ impl Verifier {
     pub(crate) fn attempt_check(&mut self, seat: SeatNo, request: Request) -> Result<Attempt, Fault>
         ensures { Attempts self.old seat.0 (Check request) result self.new }
     {
-        let verdict = self.judge(seat, request)?;
-        if let Verdict::Pass = verdict {
-            return Ok(Attempt::Made(self.pass(seat, request)?));
+        let judged = self.judge(seat, request)?;
+        if let Verdict::Pass = judged.verdict {
+            return Ok(Attempt::Made(self.pass(seat, request, judged.flags)?));
         }
-        let reply = self.ready_verdict(seat, request, verdict)?;
+        let reply = self.ready_verdict(seat, request, judged.verdict)?;
         if teaches(&reply) {
             return Ok(Attempt::Teaches(Call::Check(request), reply));
         }
@@ -123,8 +130,8 @@ impl Verifier {
         ensures answer { Prepares self.old seat.0 (Check request) result self.new }
         ensures logged { IfOk result (λ r. is_logged r ≡ true) }
     {
-        let verdict = self.judge(seat, request)?;
-        self.ready_verdict(seat, request, verdict)
+        let judged = self.judge(seat, request)?;
+        self.ready_verdict(seat, request, judged.verdict)
     }
 
     // Prepares a request on which this is the verdict. By itself, so that a request that passes
@@ -149,30 +156,34 @@ impl Verifier {
     // The verdict on a request, where it isn't refused. Inlined, since a check that isn't prepared
     // is by far the most frequent of the two that ask for it.
     #[inline(always)]
-    fn judge(&self, seat: SeatNo, request: Request) -> Result<Verdict, Fault>
+    fn judge(&self, seat: SeatNo, request: Request) -> Result<Judged, Fault>
         ensures seat { OnOk result (is_seat (state_of self.now) seat.0 ≡ true) }
         ensures lock { OnOk result (is_live (state_of self.now) request.lock.0 ≡ true) }
-        ensures ok { IfOk result (IsToldBy self.now seat.0 request) }
+        ensures ok { IfOk result (λ j. IsToldBy self.now seat.0 request j.verdict) }
+        ensures flags { IfOk result (λ j.
+            j.flags ≡ (lock_at (state_of self.now).known.locks request.lock.0).made.flags) }
         ensures err { IfErr result (λ e. answer_of self.now seat.0 (Check request) ≡ Err e) }
     {
         self.before_acquiring(seat, request.lock, request.mode, request.site)?;
-        let verdict = self.verdict(seat, request);
-        if let Verdict::Fault(fault) = verdict {
+        let judged = self.verdict(seat, request);
+        if let Verdict::Fault(fault) = judged.verdict {
             return Err(fault);
         }
         if !self.has_room(3) {
             return Err(Fault::LogFull);
         }
-        Ok(verdict)
+        Ok(judged)
     }
 
     // The verdict on the request of a seat for a live lock.
-    fn verdict(&self, seat: SeatNo, request: Request) -> Verdict
+    fn verdict(&self, seat: SeatNo, request: Request) -> Judged
         requires seat { is_seat (state_of self.now) seat.0 ≡ true }
         requires lock { is_live (state_of self.now) request.lock.0 ≡ true }
-        ensures { let s = state_of self.now in
-            answer_by (orders_taught s seat.0 request) result
+        ensures verdict { let s = state_of self.now in
+            answer_by (orders_taught s seat.0 request) result.verdict
             ≡ verdict s.profile s.known s.watch (seat_at s seat.0) request }
+        ensures flags { result.flags
+            ≡ (lock_at (state_of self.now).known.locks request.lock.0).made.flags }
     {
         let known = &self.known;
         let chains = Chains {
@@ -180,14 +191,19 @@ impl Verifier {
             seat,
             lock_types: known.lock_types(),
         };
-        verdict(
+        let asked = self.typed_request(request);
+        let verdict = verdict(
             known.names(),
             known.orders().matrix(),
             chains,
             self.watch,
-            self.typed_request(request),
+            asked,
             self.profile,
-        )
+        );
+        Judged {
+            verdict,
+            flags: asked.flags,
+        }
     }
 
     // The orders that the request of a seat for a live lock teaches behind all the locks of its
@@ -271,10 +287,11 @@ impl Verifier {
         reply
     }
 
-    // A request that passes may show that its seat doesn't hold the lock: then this is the lock's
-    // kind, and else `None`. It is `None` too where seats hold few locks, since a look through them
-    // takes no longer then.
-    fn new_in(&self, request: Request) -> Option<bool>
+    // A request for a lock that allows this passes. It may show that its seat doesn't hold the lock:
+    // then this is the lock's kind, and else `None`. It is `None` too where seats hold few locks,
+    // since a look through them takes no longer then.
+    fn new_in(&self, request: Request, flags: LockFlags) -> Option<bool>
+        requires { flags ≡ (lock_at (state_of self.now).known.locks request.lock.0).made.flags }
         ensures { IfSome result (λ spin. (tells_new (state_of self.now) request ≡ true) × (spin
             ≡ is_spin (lock_at (state_of self.now).known.locks request.lock.0).made.class)) }
     {
@@ -284,19 +301,20 @@ impl Verifier {
         if !self.watch.is_on() || !request.mode.is_exclusive() {
             return None;
         }
-        let flags = self.known.locks().flags_of(request.lock);
         if flags.contains(LockFlags::RECURSABLE) {
             return None;
         }
         Some(self.class_of_lock(request.lock).is_spin())
     }
 
-    // Enters a request that passes.
-    fn pass(&mut self, seat: SeatNo, request: Request) -> Result<Reply, Fault>
+    // Enters a request that passes, for a lock that allows this.
+    fn pass(&mut self, seat: SeatNo, request: Request, flags: LockFlags) -> Result<Reply, Fault>
+        requires flags { flags
+            ≡ (lock_at (state_of self.old).known.locks request.lock.0).made.flags }
         requires passes { answer_of self.old seat.0 (Check request) ≡ Ok Pass }
         ensures { AnswersOrFails self.old seat.0 (Check request) result self.new }
     {
-        let new_in = self.new_in(request);
+        let new_in = self.new_in(request, flags);
         self.log.reserve(3)?;
         let_go(&mut self.ready);
         self.seats.ask_for(seat, request, new_in);

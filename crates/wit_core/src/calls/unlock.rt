@@ -36,8 +36,9 @@ impl Verifier {
     {
         let spin = self.class_of_lock(lock).is_spin();
         let watch = self.watch();
-        if !self.seats.release(seat, spin, lock, mode, watch)? {
-            return Ok(Reply::Ignored);
+        let reply = self.seats.release(seat, spin, lock, mode, watch)?;
+        if let Reply::Ignored = reply {
+            return Ok(reply);
         }
         let entry = Entry {
             seat,
@@ -46,6 +47,6 @@ impl Verifier {
         };
         let_go(&mut self.ready);
         self.log.push_owed(entry, 0);
-        Ok(Reply::Unlocked)
+        Ok(reply)
     }
 }

@@ -16,4 +16,4 @@ pub returns : goal.returns
 returns c =
     used-asked c.args.lock.0 (seat_in c.args.self.now c.args.seat.0) c.holds.result c.holds-2.result
     c.holds.ensures c.if-holds.false c.holds-2.ensures c.if-holds-2.false
-    c.is_for.result c.pending.result c.pending.ensures c.is_for.ensures
+    c.is_for.result c.request_of.result c.request_of.ensures c.is_for.ensures
