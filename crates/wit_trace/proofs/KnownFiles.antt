@@ -1,5 +1,5 @@
 -- The file that a check names, where it is the known one.
-use Rattle.std.proofs.Common.{◌≡◌, ℕ, List, Option, None, Some, IfSome, subst}
+use Rattle.std.proofs.Common.{ℕ, List, Option, None, Some, IfSome, subst}
 use Rattle.std.specs.Borrow.{Bor}
 use Rattle.wit_model.specs.declared.locks.FileNo.{FileNo}
 use Rattle.wit_fields.specs.Fields.{IsKnownAs}

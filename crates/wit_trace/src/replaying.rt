@@ -177,9 +177,7 @@ impl Machine for Replaying {
             Progress::Stepping(driving) => {
                 read_step_line(driving, alloc, view, number, bytes, text)
             }
-            Progress::Unstarted | Progress::Opening(_) => {
-                self.opening_line(alloc, number, bytes, text)
-            }
+            _ => self.opening_line(alloc, number, bytes, text),
         }
     }
 

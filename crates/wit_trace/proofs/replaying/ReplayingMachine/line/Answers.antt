@@ -22,8 +22,8 @@ returns-in-Stepping-clause-step c =
     c.read_step_line.new.text.items c.read_step_line.result (ap progress_of c.in-Stepping.is)
     c.read_step_line.ensures
 
-pub returns-clause-step : goal.returns-clause-step
-returns-clause-step c =
+pub returns-in_default-clause-step : goal.returns-in_default-clause-step
+returns-in_default-clause-step c =
     shown_step c.args.self.now.view c.args.self.now c.opening_line.new.self
     (progress c.args.self.now) c.args.number c.args.bytes.now c.opening_line.new.text.items
     c.opening_line.result refl c.opening_line.ensures.read
