@@ -3,6 +3,7 @@ use Rattle.std.specs.Prelude.{ℕ, ◌≡◌, Bool, not, ◌&&◌, List}
 use Rattle.wit_model.specs.declared.locks.TypeNo.{TypeNo}
 use Rattle.wit_model.specs.declared.calls.Call.TheVariants.{Check}
 use Rattle.wit_model.specs.declared.calls.Request.{Request}
+use Rattle.wit_model.specs.declared.calls.TypedRequest.{TypedRequest}
 use Rattle.wit_model.specs.Rules.History.{is_on}
 use Rattle.wit_model.specs.Rules.Locks.{has_flag, lock_at}
 use Rattle.wit_model.specs.Rules.State.{State, Story, state_of, seat_at}
@@ -17,6 +18,15 @@ orders_taught s t q =
     let g = basis_of s.known in
     let asked = typed_request s.known q in
     new_orders g (chain_asked g (seat_at s t).sleep (seat_at s t).spin asked) asked
+
+-- a request without what is known of its lock
+abbrev pub untyped : TypedRequest → Request
+untyped asked = record {
+  lock = asked.lock;
+  site = asked.site;
+  mode = asked.mode;
+  ops = asked.ops;
+}
 
 -- the answer to a seat's request tells this verdict
 abbrev pub IsToldBy : Story → ℕ → Request → Verdict → Type 0

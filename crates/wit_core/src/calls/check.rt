@@ -17,7 +17,7 @@ ghost use Rattle.wit_model.specs.Rules.Types.{is_spin};
 ghost use Rattle.wit_model.specs.Rules.Verdict.{typed_request, verdict};
 ghost use Rattle.wit_check.specs.Answers.{answer_by};
 ghost use Rattle.wit_core.specs.Attempts.{Attempts};
-ghost use Rattle.wit_core.specs.Verdict.{orders_taught, tells_new, IsToldBy};
+ghost use Rattle.wit_core.specs.Verdict.{orders_taught, tells_new, untyped, IsToldBy};
 
 use crate::calls::attempt::Attempt;
 use crate::ready::{Plan, Ready, let_go};
@@ -165,25 +165,28 @@ impl Verifier {
         ensures err { IfErr result (λ e. answer_of self.now seat.0 (Check request) ≡ Err e) }
     {
         self.before_acquiring(seat, request.lock, request.mode, request.site)?;
-        let judged = self.verdict(seat, request);
-        if let Verdict::Fault(fault) = judged.verdict {
+        let asked = self.typed_request(request);
+        let verdict = self.verdict(seat, asked);
+        if let Verdict::Fault(fault) = verdict {
             return Err(fault);
         }
         if !self.has_room(3) {
             return Err(Fault::LogFull);
         }
-        Ok(judged)
+        Ok(Judged {
+            verdict,
+            flags: asked.flags,
+        })
     }
 
-    // The verdict on the request of a seat for a live lock.
-    fn verdict(&self, seat: SeatNo, request: Request) -> Judged
+    // The verdict on the request of a seat for a live lock, with what is known of the lock.
+    fn verdict(&self, seat: SeatNo, asked: TypedRequest) -> Verdict
         requires seat { is_seat (state_of self.now) seat.0 ≡ true }
-        requires lock { is_live (state_of self.now) request.lock.0 ≡ true }
-        ensures verdict { let s = state_of self.now in
-            answer_by (orders_taught s seat.0 request) result.verdict
-            ≡ verdict s.profile s.known s.watch (seat_at s seat.0) request }
-        ensures flags { result.flags
-            ≡ (lock_at (state_of self.now).known.locks request.lock.0).made.flags }
+        requires lock { is_live (state_of self.now) asked.lock.0 ≡ true }
+        requires asked { asked ≡ typed_request (state_of self.now).known (untyped asked) }
+        ensures { let s = state_of self.now in
+            answer_by (orders_taught s seat.0 (untyped asked)) result
+            ≡ verdict s.profile s.known s.watch (seat_at s seat.0) (untyped asked) }
     {
         let known = &self.known;
         let chains = Chains {
@@ -191,19 +194,14 @@ impl Verifier {
             seat,
             lock_types: known.lock_types(),
         };
-        let asked = self.typed_request(request);
-        let verdict = verdict(
+        verdict(
             known.names(),
             known.orders().matrix(),
             chains,
             self.watch,
             asked,
             self.profile,
-        );
-        Judged {
-            verdict,
-            flags: asked.flags,
-        }
+        )
     }
 
     // The orders that the request of a seat for a live lock teaches behind all the locks of its
