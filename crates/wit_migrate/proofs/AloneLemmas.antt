@@ -1,6 +1,6 @@
 -- Assertions and warnings: lines beside which no step of a lock is done.
-use Rattle.std.proofs.Common.{◌≡◌, ℕ, ◌+◌, List, [], ◌∷◌, Result, Ok, Err, IfOk, refl, sym, ap}
-use Rattle.std.proofs.Common.{◌∙◌, subst}
+use Rattle.std.proofs.Common.{◌≡◌, ℕ, ◌+◌, List, [], ◌∷◌, Result, Ok, Err, IfOk, OnErr, refl, sym, ap}
+use Rattle.std.proofs.Common.{◌∙◌, subst, arith}
 use Rattle.std.specs.Global.{Vec}
 use Rattle.std.specs.Result.{IsErrAnd}
 use Rattle.wit_model.specs.Rules.State.{Story}
@@ -35,11 +35,13 @@ module _ (s : Story) (raw : List RawLock) (m : ℕ) (bytes : List ℕ) (due : �
       }
 
   pub remark-fails : (count : ℕ) (e : LineError) (text answer res : Result (Vec ℕ) LineError)
-      → Remarks s due answer
+      → Remarks s due answer → OnErr answer (count ≡ m)
       → text ≡ answer → text ≡ Err e → IsErrAnd res (λ x. x ≡ e)
       → MovesAsDue (line_alone raw bytes (due m)) (Moved s raw m) (Moved s raw count) res
-  remark-fails count e text answer res remarks same err is =
+  remark-fails count e text answer res remarks counts same err is =
       let fails = subst (Remarks s due) (sym same ∙ err) remarks m in
+      let stays = subst (λ a. OnErr a (count ≡ m)) (sym same ∙ err) counts in
       failed (line_alone raw bytes (due m)) (Moved s raw m) (Moved s raw count) e res refl
+      (record { counts = omega (arith, stays); weighs = omega arith })
       (λ cause bad. bad-alone raw bytes (Reading s m) (Reading s m) cause (due m)
       (subst (FailsFor (due m) (Reading s m) (Reading s m)) bad fails)) is

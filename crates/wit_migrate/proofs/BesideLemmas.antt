@@ -1,6 +1,6 @@
 -- What a call and the step that goes with it come to.
 use Rattle.std.proofs.Common.{◌≡◌, ℕ, Bool, true, false, cond, List, [], ◌∷◌, ◌++◌, Option, None}
-use Rattle.std.proofs.Common.{Some, Result, Ok, Err, refl, sym, ap, ap₂, ◌∙◌, inl, inr}
+use Rattle.std.proofs.Common.{Some, Result, Ok, Err, refl, sym, ap, ap₂, ◌∙◌, inl, inr, arith}
 use Rattle.std.specs.Global.{Vec}
 use Rattle.std.proofs.lemmas.Bool.{cases_Bool, true≢false}
 use Rattle.wit_model.specs.declared.calls.Call.{Call}
@@ -10,9 +10,10 @@ use Rattle.wit_model.specs.declared.faults.Fault.TheVariants.{RawNotFree}
 use Rattle.wit_model.specs.declared.lines.Cause.TheVariants as why
 use Rattle.wit_model.specs.declared.lines.Line.TheVariants.{OnLock}
 use Rattle.wit_model.specs.declared.lines.LockLine.TheVariants as lock_line
+use Rattle.wit_model.specs.Rules.History.{reports_of}
 use Rattle.wit_model.specs.Rules.State.{Story, state_of}
 use Rattle.wit_model.specs.Rules.Step.{AnswersOrFails, answer_of, grown, is_logged}
-use Rattle.wit_model.specs.Trace.Moving.{Moving, Moved, MovingOutcome, with_feeds, kept_lines}
+use Rattle.wit_model.specs.Trace.Moving.{Moved, MovingOutcome, with_feeds}
 use Rattle.wit_model.specs.Trace.Moving.{step_line, answered, moves}
 use Rattle.wit_model.specs.Trace.Moving as moving
 use Rattle.wit_model.specs.Trace.Output.{Logs, makes}
@@ -26,10 +27,12 @@ use Rattle.wit_model.proofs.Histories.Legal.{seat_accepted}
 use Rattle.wit_fields.specs.declared.errors.LineError.{LineError}
 use Rattle.wit_fields.specs.declared.errors.LineError.TheVariants.{Bad, Memory}
 use Rattle.wit_world.specs.Steps.{makes_lock}
-use Rattle.wit_migrate.specs.Migrates.{DoesBeside, MovesAsDue, GoesWithCall, IsBeside, Writes}
+use Rattle.wit_migrate.specs.Migrates.{AddsOneAtMost, DoesBeside, MovesAsDue, GoesWithCall, IsBeside}
+use Rattle.wit_migrate.specs.Migrates.{Writes, weight}
 use Rattle.wit_migrate.specs.Migrates.{before_of, behind_of, line_and_step, deed, is_first}
 use Rattle.wit_migrate.specs.Migrates.{line_of_step}
 use Rattle.wit_migrate.specs.declared.steps.LockStep.{LockStep}
+use Rattle.wit_trace.proofs.CountLemmas.{grown-le}
 
 -- it makes no lock
 abbrev pub IsPlain : Call → Type 0
@@ -152,27 +155,40 @@ module _ (s : Story) (raw : List RawLock) (m : ℕ) (bytes : List ℕ) (t : ℕ)
             | inr is ↦ absurd (true≢false (sym (b.own.2 is) ∙ barred))
           ]
 
-    made-step : (k : Option LockStep) → IsBeside s.history raw t call k → (old : Moving)
-        → kept_lines old ≡ []
+    -- a call whose step the lock doesn't admit may have been reported
+    made-adds : (raw' : List RawLock) → raw' ≡ raw
+        → AddsOneAtMost (Moved s raw m) (Moved new raw' m)
+    made-adds raw' stays = record {
+      counts =
+          omega (
+            arith,
+            grown-le s t call r,
+            ap (λ (x : Story). reports_of x.history) grows,
+          );
+      weighs = omega (arith, ap weight stays);
+    }
+
+    made-step : (k : Option LockStep) → IsBeside s.history raw t call k
         → (raw' : List RawLock) (res : Result (Vec ℕ) LineError) → DoesStep k bytes raw raw' res
-        → MovesAsDue (answered s raw m bytes t call (answer_of s t call)) old (Moved new raw' m) res
-    made-step None b old none raw' (Ok text) does = record {
+        → MovesAsDue (answered s raw m bytes t call (answer_of s t call)) (Moved s raw m)
+        (Moved new raw' m) res
+    made-step None b raw' (Ok text) does = record {
       lines = bytes ∷ [];
       goes = made-alone b ∙ ap (λ rs. moving.Goes (Moved new rs m) (bytes ∷ [])) (sym does.0);
       written = does.1;
     }
-    made-step None b old none raw' (Err Memory) does = tt
-    made-step None b old none raw' (Err (Bad cause)) does = elim does [ ]
-    made-step (Some k) b old none raw' (Ok text) does = record {
+    made-step None b raw' (Err Memory) does = tt
+    made-step None b raw' (Err (Bad cause)) does = elim does [ ]
+    made-step (Some k) b raw' (Ok text) does = record {
       lines = line_and_step k bytes;
       goes =
           free-due k b does.0 ∙ ap (λ rs. moving.Goes (Moved new rs m) (line_and_step k bytes))
           (sym does.1);
       written = does.2;
     }
-    made-step (Some k) b old none raw' (Err Memory) does = tt
-    made-step (Some k) b old none raw' (Err (Bad cause)) does =
-        (barred-due k b does.0 ∙ ap moving.Bad (sym does.1), sym none)
+    made-step (Some k) b raw' (Err Memory) does = tt
+    made-step (Some k) b raw' (Err (Bad cause)) does =
+        (barred-due k b does.0 ∙ ap moving.Bad (sym does.1), refl, made-adds raw' does.2)
 
 -- ---- what is told of a call that was made
 
@@ -184,7 +200,7 @@ module _ (s new : Story) (raw raw' : List RawLock) (m : ℕ) (bytes : List ℕ) 
       → MovesAsDue (moves s raw m bytes (Logs t call)) (Moved s raw m) (Moved new raw' m) r
   log-made k r goes plain does =
       made-step s raw m bytes t call reply new made.0 made.1 (plain-call call plain) k
-      (goes (seat_accepted (state_of s) t call reply made.0)) (Moved s raw m) refl raw' r does
+      (goes (seat_accepted (state_of s) t call reply made.0)) raw' r does
 
 -- one that makes a lock
 pub lock-made : (s new : Story) (raw : List RawLock) (m : ℕ) (bytes : List ℕ) (t : ℕ) (call : Call)

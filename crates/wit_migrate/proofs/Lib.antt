@@ -1,6 +1,7 @@
 pub mod AddedLines
 pub mod Again
 pub mod AloneLemmas
+pub mod BehindLemmas
 pub mod BesideLemmas
 pub mod MigrateEnds
 pub mod MigrateLemmas

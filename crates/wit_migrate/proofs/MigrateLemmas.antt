@@ -28,10 +28,11 @@ use Rattle.wit_model.specs.Trace.Output.{is_profile, summed}
 use Rattle.wit_model.specs.Trace.Output as output
 use Rattle.wit_model.specs.Trace.Reading.{line_of}
 use Rattle.wit_model.specs.World.Scenes.{RawLock}
+use Rattle.wit_fields.specs.declared.errors.LineError.{LineError}
 use Rattle.wit_grammar.specs.Lines.{IsSpelled}
 use Rattle.wit_stream.specs.Machine.{Follows}
 use Rattle.wit_migrate.specs.Migrates.{IsMigrated, EndsWith, GoesOver, HasMoved, IsRefusedAt}
-use Rattle.wit_migrate.specs.Migrates.{Writes}
+use Rattle.wit_migrate.specs.Migrates.{MovesAsDue, Writes}
 use Rattle.wit_migrate.specs.Migrates.{kept_bytes, migrated, moved_to}
 use Rattle.wit_trace.specs.Replays.{IsVerifierOf, total}
 use Rattle.wit_migrate.specs.declared.migrating.Migrating.{Migrating}
@@ -223,24 +224,15 @@ line-refused old n line told bad r found summary text is sums none same lines ta
     (refused-migrated r.prelude r.lines bad found summary told text r.written is sums none same)
 
 -- a line that is read makes its call
-pub line-writes : (s : Story) (raw : List RawLock) (m n : ℕ) (bytes : List ℕ) (line : Line)
-    (new : Moving) (text : List ℕ)
+pub line-moves : (s : Story) (raw : List RawLock) (m n : ℕ) (bytes : List ℕ) (line : Line)
+    (old new : Moving) (r : Result (Vec ℕ) LineError)
     → length bytes ≤ LONGEST → line_of bytes ≡ Some line
-    → Writes (moves s raw m bytes (call_of line)) new text
-    → Writes (moving_outcome (Moved s raw m) n bytes) new text
-line-writes s raw m n bytes line new text short reads w = record {
-  lines = w.lines;
-  goes = rw (le-ltb LONGEST (length bytes) short, reads) w.goes;
-  written = w.written;
-}
-
--- and what it comes to that is bad
-pub line-fails : (s : Story) (raw : List RawLock) (m n : ℕ) (bytes : List ℕ) (line : Line)
-    (cause : Cause) → length bytes ≤ LONGEST → line_of bytes ≡ Some line
-    → moves s raw m bytes (call_of line) ≡ moving.Bad cause
-    → moving_outcome (Moved s raw m) n bytes ≡ moving.Bad cause
-line-fails s raw m n bytes line cause short reads is =
-    rw (le-ltb LONGEST (length bytes) short, reads) is
+    → MovesAsDue (moves s raw m bytes (call_of line)) old new r
+    → MovesAsDue (moving_outcome (Moved s raw m) n bytes) old new r
+line-moves s raw m n bytes line old new r short reads does =
+    let due : moving_outcome (Moved s raw m) n bytes ≡ moves s raw m bytes (call_of line)
+    = rw (le-ltb LONGEST (length bytes) short, reads) refl in
+    subst (λ o. MovesAsDue o old new r) (sym due) does
 
 -- the step that ends the migration
 pub ends-follow : (old new : Migrating) (n : ℕ) (line text : List ℕ) (summary : Summary)
@@ -265,6 +257,5 @@ pub ended-moved : {E : Type 0} (old new : Migrating) (n : ℕ) (line text : List
 ended-moved old new n line text summary written (Err e) ends over is = tt
 ended-moved old new n line text summary written (Ok s) ends over is = (
   ends-follow old new n line text summary written s ends is,
-  rw over (omega arith),
-  rw over (omega arith),
+  record { counts = rw over (omega arith); weighs = rw over (omega arith) },
 )

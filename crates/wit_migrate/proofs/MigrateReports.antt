@@ -108,11 +108,3 @@ pub written_one : (m new : Moving) (n : ℕ) (bytes text : List ℕ)
     → moving_reports new ≤ moving_reports m + 1
 written_one m new n bytes text w =
     subst (MovesOne (moving_reports m)) w.goes (outcome_one m n bytes)
-
-pub moved_one : (s : Story) (raw : List RawLock) (m : ℕ) (new : Moving) (bytes text : List ℕ)
-    (c : LineCall)
-    → Writes (moves s raw m bytes c) new text → moving_reports new ≤ reports_of s.history + m + 1
-moved_one s raw m new bytes text c w =
-    let one : moving_reports new ≤ (reports_of s.history + m) + 1
-    = subst (MovesOne (reports_of s.history + m)) w.goes (moves_one s raw m bytes c) in
-    one

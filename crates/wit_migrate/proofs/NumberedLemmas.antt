@@ -1,5 +1,6 @@
 -- What a line comes to that is bad, or whose file gets a number.
-use Rattle.std.proofs.Common.{◌≡◌, ℕ, List, Result, Ok, Err, refl, sym, ap, ◌∙◌, subst}
+use Rattle.std.proofs.Common.{◌≡◌, ℕ, List, Option, None, Some, Result, Ok, Err, refl, sym, ap, ◌∙◌}
+use Rattle.std.proofs.Common.{subst, arith}
 use Rattle.std.specs.Global.{Vec}
 use Rattle.std.specs.Result.{IsErrAnd}
 use Rattle.wit_model.specs.declared.calls.Call.{Call}
@@ -8,6 +9,7 @@ use Rattle.wit_model.specs.declared.faults.Fault.{Fault}
 use Rattle.wit_model.specs.declared.lines.Cause.{Cause}
 use Rattle.wit_model.specs.declared.locks.FileNo.{FileNo}
 use Rattle.wit_model.specs.Rules.Files.{naming_answer, files_after}
+use Rattle.wit_model.specs.Rules.History.{reports_of}
 use Rattle.wit_model.specs.Rules.State.{Story}
 use Rattle.wit_model.specs.Rules.Step.{AnswersOrFails, answer_of}
 use Rattle.wit_model.specs.Trace.Moving.{Moving, Moved, MovingOutcome, kept_lines, answered}
@@ -20,7 +22,7 @@ use Rattle.wit_fields.specs.Fields.{RefusesLine}
 use Rattle.wit_fields.specs.declared.errors.LineError.{LineError}
 use Rattle.wit_fields.specs.declared.errors.LineError.TheVariants.{Bad, Memory}
 use Rattle.wit_trace.specs.LineCalls.{NumbersFile, at_number, file_named}
-use Rattle.wit_migrate.specs.Migrates.{MovesAsDue}
+use Rattle.wit_migrate.specs.Migrates.{AddsOneAtMost, MovesAsDue}
 use Rattle.wit_trace.specs.Replays.{FailsFor, IsBadFor}
 use Rattle.wit_trace.proofs.CallLemmas.{call_refused, not_numbered}
 
@@ -58,13 +60,21 @@ bad-moves s raw m bytes p q cause (LogsAt t file call) bad =
     bad-at s raw m bytes p q cause t file call (naming_answer s file) bad
 bad-moves s raw m bytes p q cause c bad = bad-alone raw bytes p q cause (calls s m c) bad
 
+-- a story that stays adds nothing
+story-adds : (s new : Story) (raw : List RawLock) (m : ℕ) → new ≡ s
+    → AddsOneAtMost (Moved s raw m) (Moved new raw m)
+story-adds s new raw m is =
+    subst (λ (x : Story). AddsOneAtMost (Moved s raw m) (Moved x raw m)) (sym is)
+    (record { counts = omega arith; weighs = omega arith })
+
 -- what is passed on of a failure
 pub failed : (due : MovingOutcome) (old new : Moving) (e : LineError) (r : Result (Vec ℕ) LineError)
-    → kept_lines new ≡ kept_lines old → ((cause : Cause) → e ≡ Bad cause → due ≡ moving.Bad cause)
+    → kept_lines new ≡ kept_lines old → AddsOneAtMost old new
+    → ((cause : Cause) → e ≡ Bad cause → due ≡ moving.Bad cause)
     → IsErrAnd r (λ x. x ≡ e) → MovesAsDue due old new r
-failed due old new e (Ok text) same bad is = elim is [ ]
-failed due old new e (Err Memory) same bad is = tt
-failed due old new e (Err (Bad cause)) same bad is = (bad cause (sym is), same)
+failed due old new e (Ok text) same adds bad is = elim is [ ]
+failed due old new e (Err Memory) same adds bad is = tt
+failed due old new e (Err (Bad cause)) same adds bad is = (bad cause (sym is), same, adds)
 
 bad-fails : (s new : Story) (raw : List RawLock) (m : ℕ) (bytes : List ℕ) (c : LineCall)
     (p q : output.Progress) (e : LineError)
@@ -81,10 +91,16 @@ pub log-refused : (s new : Story) (raw : List RawLock) (m : ℕ) (bytes : List �
 log-refused s new raw m bytes t call fault (Ok text) answers refuses = elim refuses [ ]
 log-refused s new raw m bytes t call fault (Err e) answers refuses =
     failed (moves s raw m bytes (Logs t call)) (Moved s raw m) (Moved new raw m) e (Err e) refl
+    (story-adds s new raw m answers.1)
     (bad-fails s new raw m bytes (Logs t call) (Reading s m) (Reading new m) e
     (call_refused s new t call fault (Err e) answers refuses m)) refl
 
 -- ---- the file of a line
+
+not-named : (s new : Story) (file : Option (List ℕ)) (fault : Fault)
+    → NumbersFile s file (Err fault) new → new ≡ s
+not-named s new (Some file) fault names = names.2
+not-named s new None fault names = absurd names
 
 -- it gets no number
 pub not-numbered : (s new : Story) (raw : List RawLock) (m : ℕ) (bytes : List ℕ) (c : LineCall)
@@ -94,6 +110,7 @@ pub not-numbered : (s new : Story) (raw : List RawLock) (m : ℕ) (bytes : List 
 not-numbered s new raw m bytes c fault (Ok text) names refuses = elim refuses [ ]
 not-numbered s new raw m bytes c fault (Err e) names refuses =
     failed (moves s raw m bytes c) (Moved s raw m) (Moved new raw m) e (Err e) refl
+    (story-adds s new raw m (not-named s new (file_named c) fault names))
     (bad-fails s new raw m bytes c (Reading s m) (Reading new m) e
     (not_numbered s new c fault e names refuses m)) refl
 
@@ -107,13 +124,26 @@ moves-numbered s mid raw m bytes (LogsAt t file call) f names =
     (sym names.1)
 moves-numbered s mid raw m bytes c f names = ap (λ (x : Story). moves x raw m bytes c) (sym names)
 
--- nothing was kept before or behind it
+-- to name a file enters nothing into the log
+named-log : (s mid : Story) (file : Option (List ℕ)) (f : FileNo) → NumbersFile s file (Ok f) mid
+    → mid.history ≡ s.history
+named-log s mid (Some file) f names = ap (λ (x : Story). x.history) names.1
+named-log s mid None f names = ap (λ (x : Story). x.history) names
+
+-- nothing was kept before or behind it, and to name the file added nothing
 moves-from : (due : MovingOutcome) (s mid : Story) (raw : List RawLock) (m : ℕ) (new : Moving)
-    (r : Result (Vec ℕ) LineError) → MovesAsDue due (Moved mid raw m) new r
-    → MovesAsDue due (Moved s raw m) new r
-moves-from due s mid raw m new (Ok text) does = does
-moves-from due s mid raw m new (Err Memory) does = tt
-moves-from due s mid raw m new (Err (Bad cause)) does = does
+    (r : Result (Vec ℕ) LineError) → mid.history ≡ s.history
+    → MovesAsDue due (Moved mid raw m) new r → MovesAsDue due (Moved s raw m) new r
+moves-from due s mid raw m new (Ok text) log does = does
+moves-from due s mid raw m new (Err Memory) log does = tt
+moves-from due s mid raw m new (Err (Bad cause)) log does = (
+  does.0,
+  does.1,
+  record {
+    counts = omega (arith, ap reports_of log, does.2.counts);
+    weighs = does.2.weighs;
+  },
+)
 
 -- then what becomes of the call becomes of the line
 pub line-numbered : (s mid : Story) (raw : List RawLock) (m : ℕ) (bytes : List ℕ)
@@ -124,6 +154,7 @@ pub line-numbered : (s mid : Story) (raw : List RawLock) (m : ℕ) (bytes : List
 line-numbered s mid raw m bytes c made f new r names is does =
     subst (λ due. MovesAsDue due (Moved s raw m) new r)
     (ap (moves mid raw m bytes) is ∙ sym (moves-numbered s mid raw m bytes c f names))
-    (moves-from (moves mid raw m bytes made) s mid raw m new r does)
+    (moves-from (moves mid raw m bytes made) s mid raw m new r
+    (named-log s mid (file_named c) f names) does)
 
 -- ---- a call that was made

@@ -1,5 +1,5 @@
 -- What the locks weigh: a line that is migrated makes a lock, or gives a share, or neither.
-use Rattle.std.proofs.Common.{◌≡◌, ℕ, ◌+◌, ◌-◌, ◌<◌, ◌≤◌, max, Bool, true, false, cond, ◌==◌}
+use Rattle.std.proofs.Common.{◌≡◌, ℕ, ◌+◌, ◌-◌, ◌<◌, ◌≤◌, Bool, true, false, cond, ◌==◌}
 use Rattle.std.proofs.Common.{nat_lt, nat_le, List, [], ◌∷◌, ◌++◌, length, get_or, set, sum_by}
 use Rattle.std.proofs.Common.{unwrap_or, Option, None, Some, Result, Ok, Err, refl, sym, subst, inl}
 use Rattle.std.proofs.Common.{inr, arith}
@@ -271,13 +271,3 @@ pub written_weighs : (m new : Moving) (n : ℕ) (bytes text : List ℕ)
     → weighed new ≤ weighed m + 1
 written_weighs m new n bytes text w =
     subst (WeighsOne (weighed m)) w.goes (outcome_weighs m n bytes)
-
-pub moved_weighs : (s : Story) (raw : List RawLock) (m : ℕ) (new : Moving) (bytes text : List ℕ)
-    (c : LineCall)
-    → Writes (moves s raw m bytes c) new text → weighed new ≤ weight raw + 1
-moved_weighs s raw m new bytes text c w =
-    subst (WeighsOne (weight raw)) w.goes (moves_weighs s raw m bytes c)
-
--- neither count is raised by more than one
-pub both_one : (a b c d : ℕ) → c ≤ a + 1 → d ≤ b + 1 → max c d ≤ max a b + 1
-both_one a b c d few little = omega (arith, few, little)

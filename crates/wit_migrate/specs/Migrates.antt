@@ -5,7 +5,6 @@ use Rattle.std.specs.Prelude.{if◌then◌else◌}
 use Rattle.std.specs.Global.{Vec}
 use Rattle.wit_model.specs.declared.calls.Call.{Call}
 use Rattle.wit_model.specs.declared.calls.Entry.{Entry}
-use Rattle.wit_model.specs.declared.locks.FileNo.{FileNo}
 use Rattle.wit_model.specs.declared.locks.LockNo.{LockNo}
 use Rattle.wit_model.specs.declared.locks.SeatNo.{SeatNo}
 use Rattle.wit_model.specs.declared.locks.Mode.TheVariants.{Exclusive}
@@ -30,14 +29,13 @@ use Rattle.wit_model.specs.Trace.Moving.{Moving, Written, MovingOutcome, with_fe
 use Rattle.wit_model.specs.Trace.Moving.{lines_before}
 use Rattle.wit_model.specs.Trace.Moving.{kept_lines, moving_from, moving_reached}
 use Rattle.wit_model.specs.Trace.Output as output
-use Rattle.wit_model.specs.Trace.Output.{BadLine}
+use Rattle.wit_model.specs.Trace.Output.{BadLine, bad_text}
 use Rattle.wit_model.specs.Trace.Spelling.{spelling}
 use Rattle.wit_fields.specs.declared.errors.LineError.{LineError}
 use Rattle.wit_fields.specs.declared.errors.LineError.TheVariants.{Bad, Memory}
 use Rattle.wit_grammar.specs.declared.parse.TheConstants.{LONGEST}
 use Rattle.wit_world.specs.Steps.{deed_in}
 use Rattle.wit_stream.specs.Machine.{Follows}
-use Rattle.wit_trace.specs.LineCalls.{Keeps}
 use Rattle.wit_trace.specs.Outputs.{summary_of}
 use Rattle.wit_trace.specs.Replays.{prelude_of, total}
 use Rattle.wit_stream.specs.Text.{text_of}
@@ -62,14 +60,6 @@ moved_to Unmoved = moving.Unmoved
 moved_to (Keeping prelude kept) = moving.Keeping (prelude_of prelude) (kept_bytes kept.items)
 moved_to (Moved behind) = standing behind
 
--- a file has this number, and to name it changes nothing
-abbrev pub names_moving : Moving → List ℕ → FileNo → Type 0
-names_moving (moving.Moved s raw n) file f = Keeps s file f
-names_moving m file f = ⊥
-
-abbrev pub names_file : Migrating → List ℕ → FileNo → Type 0
-names_file m = names_moving (moved_to m)
-
 -- how many reports were told so far
 abbrev pub moving_reports : Moving → ℕ
 moving_reports m = (output.summed (moving.read_to m) None).reports
@@ -86,6 +76,11 @@ weight raw = sum_by lock_weight raw
 abbrev pub weighed : Moving → ℕ
 weighed (moving.Moved s raw n) = weight raw
 weighed m = 0
+
+-- a line counts for one report at most, and weighs one at most
+pub record AddsOneAtMost (old new : Moving) : Type 0 where
+  pub counts : moving_reports new ≤ moving_reports old + 1
+  pub weighs : weighed new ≤ weighed old + 1
 
 -- ---- what is written
 
@@ -127,17 +122,13 @@ pub record Writes (due : MovingOutcome) (new : Moving) (text : List ℕ) : Type 
   pub goes : due ≡ moving.Goes new lines
   pub written : text ≡ with_feeds lines
 
--- what became of a line is what should; of want of memory nothing is said
+-- what became of a line is what should; a bad one adds one at most too, as its call may have been
+-- made; of want of memory nothing is said
 abbrev pub MovesAsDue : MovingOutcome → Moving → Moving → Result (Vec ℕ) LineError → Type 0
 MovesAsDue due old new (Ok text) = Writes due new text.items
 MovesAsDue due old new (Err Memory) = Unit {0}
 MovesAsDue due old new (Err (Bad cause)) =
-    (due ≡ moving.Bad cause) × (kept_lines new ≡ kept_lines old)
-
--- the prelude is over
-abbrev pub IsOver : Migrating → Type 0
-IsOver (Moved behind) = Unit {0}
-IsOver m = ⊥
+    (due ≡ moving.Bad cause) × (kept_lines new ≡ kept_lines old) × AddsOneAtMost old new
 
 -- a line may be moved: fewer reports were told than its number, and the locks weigh less; it isn't
 -- too long, and nothing is written of it yet
@@ -146,18 +137,21 @@ MayMove m number line text =
     (moving_reports (moved_to m) < number) × (weighed (moved_to m) < number)
     × (length line ≤ LONGEST) × (text ≡ [])
 
--- a line is moved: this text is written, and what follows; it counts for one report at most, and
--- weighs one at most
+-- a line is moved: this text is written, and what follows; it adds one at most
 abbrev pub HasMoved : Migrating → ℕ → List ℕ → Migrating → List ℕ → Step → Type 0
 HasMoved old number line new text s =
-    Follows migrated old new number line text s
-    × (moving_reports (moved_to new) ≤ moving_reports (moved_to old) + 1)
-    × (weighed (moved_to new) ≤ weighed (moved_to old) + 1)
+    Follows migrated old new number line text s × AddsOneAtMost (moved_to old) (moved_to new)
 
 -- the migration ends with this text and this summary
 abbrev pub EndsWith : List ℕ → Summary → List ℕ → Step → Type 0
 EndsWith text summary written step.Goes = ⊥
 EndsWith text summary written (step.Ends found) = (written ≡ text) × (found ≡ summary)
+
+-- it ends at a line that is bad, where nothing is kept; not for want of memory
+abbrev pub EndsFor : Summary → ℕ → LineError → List ℕ → Step → Type 0
+EndsFor found number Memory written s = ⊥
+EndsFor found number (Bad cause) written s =
+    EndsWith (bad_text number cause) (record found { bad = Some (number, cause) }) written s
 
 -- whatever follows a line that is looked at, this is written before it
 pub record GoesOver (m : Moving) (n : ℕ) (line : List ℕ) (new : Moving)
@@ -265,7 +259,7 @@ abbrev pub line_and_step : LockStep → List ℕ → List (List ℕ)
 line_and_step k bytes =
     if is_first k.step then line_of_step k ∷ bytes ∷ [] else bytes ∷ line_of_step k ∷ []
 
--- the step was done, and both lines are the text; or the lock doesn't admit it
+-- the step was done, and both lines are the text; or the lock doesn't admit it, and stays
 abbrev pub DoesBeside : LockStep → List ℕ → List RawLock → List RawLock
     → Result (Vec ℕ) LineError → Type 0
 DoesBeside k bytes old new (Ok text) =
@@ -273,4 +267,4 @@ DoesBeside k bytes old new (Ok text) =
     × (text.items ≡ with_feeds (line_and_step k bytes))
 DoesBeside k bytes old new (Err Memory) = Unit {0}
 DoesBeside k bytes old new (Err (Bad cause)) =
-    (is_free old (deed k) ≡ false) × (cause ≡ Fault RawNotFree)
+    (is_free old (deed k) ≡ false) × (cause ≡ Fault RawNotFree) × (new ≡ old)

@@ -1,12 +1,13 @@
 //! What a migration knows behind the prelude.
 
-ghost use Rattle.std.specs.Prelude.{◌≡◌, ◌+◌, ◌-◌, ◌<◌, ◌≤◌, ◌^◌, ◌++◌, ◌∷◌, [], true, false, None};
-ghost use Rattle.std.specs.Prelude.{Some, IfSome};
+ghost use Rattle.std.specs.Prelude.{◌≡◌, ℕ, ◌+◌, ◌-◌, ◌<◌, ◌≤◌, ◌^◌, ◌++◌, ◌∷◌, [], length, true};
+ghost use Rattle.std.specs.Prelude.{false, None, Some, IfSome};
 ghost use Rattle.wit_model.specs.Rules.Names.{is_file_name};
-ghost use Rattle.wit_model.specs.Trace.Moving.{moves, read_to};
+ghost use Rattle.wit_model.specs.Trace.Moving.{moves, moving_outcome, read_to};
 ghost use Rattle.wit_model.specs.Trace.Output.{Logs, call_of, summed};
 ghost use Rattle.wit_model.specs.Trace.Reading.{line_of};
-ghost use Rattle.wit_grammar.specs.Lines.{as_line};
+ghost use Rattle.wit_grammar.specs.Lines.{Begins, as_line};
+ghost use Rattle.wit_grammar.specs.declared.parse.TheConstants.{LONGEST};
 ghost use Rattle.wit_world.specs.Steps.{makes_lock};
 ghost use Rattle.wit_trace.specs.LineCalls.{Keeps, as_call};
 ghost use Rattle.wit_migrate.specs.Migrates.{IsLineOf, MovesAsDue, moving_reports, standing};
@@ -17,7 +18,7 @@ use crate::steps::{do_beside, step_beside};
 use crate::texts::line_in;
 use std::alloc::Global;
 use wit_core::Verifier;
-use wit_grammar::LineError;
+use wit_grammar::{Begun, LineError, finish_line};
 use wit_model::{Call, FileNo, Line, LockLine, SeatNo};
 use wit_stream::Summary;
 use wit_trace::{
@@ -94,6 +95,27 @@ impl Behind {
     {
         let file = number_of(&mut self.verifier, file_on_lock(&line))?;
         self.make_call(alloc, room, lock_call(line, file), bytes)
+    }
+
+    /// A line of any kind, of which the first word was read.
+    ///
+    /// # Errors
+    /// Those of `enter`; and `Bad` where it spells no line.
+    pub fn read(
+        &mut self,
+        alloc: Global,
+        bytes: &[u8],
+        begun: Option<Begun<'_>>,
+    ) -> Result<Vec<u8>, LineError>
+        requires counted { self.old.remarks < 2 ^ 64 - 1 }
+        requires few { weight self.old.raw < 2 ^ 64 - 1 }
+        requires short { length bytes.now ≤ LONGEST }
+        requires begun { Begins begun (line_of bytes.now) }
+        ensures { (number : ℕ) → MovesAsDue (moving_outcome (standing self.old) number bytes.now)
+            (standing self.old) (standing self.new) result }
+    {
+        let line = finish_line(alloc, begun)?;
+        self.enter(alloc, line, bytes)
     }
 
     /// A line of any kind makes its call, and is written with the step that goes with it.

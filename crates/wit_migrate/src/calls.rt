@@ -1,32 +1,33 @@
 //! The lines past the prelude of a trace that is migrated, of which most make a call that is logged.
 
-ghost use Rattle.wit_migrate.specs.Migrates.{IsOver, MayMove, HasMoved, names_file};
+ghost use Rattle.wit_trace.specs.LineCalls.{Keeps};
+ghost use Rattle.wit_migrate.specs.Migrates.{MayMove, HasMoved};
+ghost use Rattle.wit_migrate.specs.declared.migrating.Migrating.TheVariants.{Moved};
 
-use crate::migrating::Migrating;
+use crate::behind::Behind;
+use crate::endings::failed_step;
 use std::alloc::{AllocError, Global};
 use std::mem;
-use wit_grammar::{Begun, LineError};
+use wit_grammar::Begun;
 use wit_model::{Call, FileNo, LockLine, SeatNo};
 use wit_stream::Step;
 use wit_trace::LineReader;
 
-// It reads lines so once the prelude is over.
-impl LineReader for Migrating {
+// What stands behind the prelude reads them itself: so no line asks again whether it is over.
+impl LineReader for Behind {
     // There is one way to write lines.
     type View = ();
 
-    ghost may = { λ view m number line text. IsOver m × MayMove m number line text };
+    ghost may = { λ view b number line text. MayMove (Moved b) number line text };
 
-    ghost has = { λ view old number line new text step. HasMoved old number line new text step };
+    ghost has = { λ view old number line new text step.
+        HasMoved (Moved old) number line (Moved new) text step };
 
-    ghost names = { names_file };
+    ghost names = { λ b. Keeps b.verifier };
 
     #[inline(always)]
     fn recent_file(&self) -> Option<(FileNo, &str)> {
-        match self {
-            Migrating::Moved(behind) => behind.recent_file(),
-            Migrating::Unmoved | Migrating::Keeping { .. } => None,
-        }
+        Behind::recent_file(self)
     }
 
     // It makes its call at once.
@@ -41,20 +42,14 @@ impl LineReader for Migrating {
         call: Call,
         text: &mut Vec<u8>,
     ) -> Result<Step, AllocError> {
-        let Migrating::Moved(behind) = self else {
-            unreachable!();
-        };
-        let found = behind.summary();
+        let found = self.summary();
         let room = mem::replace(text, Vec::new(alloc));
-        match behind.log(room, seat, call, bytes) {
+        match self.log(room, seat, call, bytes) {
             Ok(told) => {
                 *text = told;
                 Ok(Step::Goes)
             }
-            Err(LineError::Bad(cause)) => {
-                self.ended_step(alloc, Vec::new(alloc), found, number, cause, text)
-            }
-            Err(LineError::Memory) => Err(AllocError),
+            Err(error) => failed_step(alloc, found, number, error, text),
         }
     }
 
@@ -69,24 +64,19 @@ impl LineReader for Migrating {
         line: LockLine<&str>,
         text: &mut Vec<u8>,
     ) -> Result<Step, AllocError> {
-        let Migrating::Moved(behind) = self else {
-            unreachable!();
-        };
-        let found = behind.summary();
+        let found = self.summary();
         let room = mem::replace(text, Vec::new(alloc));
-        match behind.enter_on_lock(alloc, room, line, bytes) {
+        match self.enter_on_lock(alloc, room, line, bytes) {
             Ok(told) => {
                 *text = told;
                 Ok(Step::Goes)
             }
-            Err(LineError::Bad(cause)) => {
-                self.ended_step(alloc, Vec::new(alloc), found, number, cause, text)
-            }
-            Err(LineError::Memory) => Err(AllocError),
+            Err(error) => failed_step(alloc, found, number, error, text),
         }
     }
 
-    #[inline(always)]
+    // By itself, so that a call on a lock doesn't pay for it.
+    #[inline(never)]
     fn read_any(
         &mut self,
         alloc: Global,
@@ -96,6 +86,13 @@ impl LineReader for Migrating {
         begun: Option<Begun<'_>>,
         text: &mut Vec<u8>,
     ) -> Result<Step, AllocError> {
-        self.any_line(alloc, number, bytes, begun, text)
+        let found = self.summary();
+        match self.read(alloc, bytes, begun) {
+            Ok(told) => {
+                *text = told;
+                Ok(Step::Goes)
+            }
+            Err(error) => failed_step(alloc, found, number, error, text),
+        }
     }
 }

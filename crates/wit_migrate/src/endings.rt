@@ -4,13 +4,14 @@ ghost use Rattle.std.specs.Prelude.{◌≡◌, ◌<◌, ◌^◌, ◌++◌, false
 ghost use Rattle.wit_model.specs.Trace.Moving.{kept_lines, read_to, with_feeds};
 ghost use Rattle.wit_model.specs.Trace.Moving as moving;
 ghost use Rattle.wit_model.specs.Trace.Output.{bad_text, summed};
-ghost use Rattle.wit_migrate.specs.Migrates.{EndsWith, moved_to, moving_reports};
+ghost use Rattle.wit_migrate.specs.Migrates.{EndsFor, EndsWith, moved_to, moving_reports};
 ghost use Rattle.wit_trace.specs.Replays.{total};
 
 use crate::migrating::Migrating;
 use crate::texts::{join, whole_lines};
 use std::alloc::{AllocError, Global};
 use std::mem;
+use wit_grammar::LineError;
 use wit_model::{Boxed, Cause};
 use wit_stream::{Step, Summary};
 use wit_trace::bad_text;
@@ -54,12 +55,8 @@ impl Migrating {
         ensures over { OnOk result (moved_to self.new ≡ moving.Unmoved) }
     {
         let kept = self.last_lines(alloc)?;
-        let last = join(kept, bad_text(alloc, number, cause)?.as_bytes())?;
+        let (last, summary) = bad_ending(alloc, kept, found, number, cause)?;
         let text = join(before, &last)?;
-        let summary = Summary {
-            bad: Some((number, cause)),
-            ..found
-        };
         Ok((text, summary))
     }
 
@@ -97,4 +94,49 @@ impl Migrating {
         *text = last;
         Ok(Step::Ends(Boxed::new(alloc, summary)?))
     }
+}
+
+/// What becomes of a line past the prelude that is bad, where this was found before it, or that
+/// found no memory. The last text is put into this one.
+///
+/// # Errors
+/// Want of memory alone.
+#[cold]
+#[inline(never)]
+pub fn failed_step(
+    alloc: Global,
+    found: Summary,
+    number: u64,
+    error: LineError,
+    text: &mut Vec<u8>,
+) -> Result<Step, AllocError>
+    ensures { IfOk result (EndsFor found number error text.new.items) }
+{
+    match error {
+        LineError::Bad(cause) => {
+            let (last, summary) = bad_ending(alloc, Vec::new(alloc), found, number, cause)?;
+            *text = last;
+            Ok(Step::Ends(Boxed::new(alloc, summary)?))
+        }
+        LineError::Memory => Err(AllocError),
+    }
+}
+
+// The last text and the summary at a bad line, where these lines were kept.
+fn bad_ending(
+    alloc: Global,
+    kept: Vec<u8>,
+    found: Summary,
+    number: u64,
+    cause: Cause,
+) -> Result<(Vec<u8>, Summary), AllocError>
+    ensures text { IfOk result (λ r. r.0.items ≡ kept.items ++ bad_text number cause) }
+    ensures summary { IfOk result (λ r. r.1 ≡ record found { bad = Some (number, cause) }) }
+{
+    let last = join(kept, bad_text(alloc, number, cause)?.as_bytes())?;
+    let summary = Summary {
+        bad: Some((number, cause)),
+        ..found
+    };
+    Ok((last, summary))
 }

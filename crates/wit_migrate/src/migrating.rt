@@ -2,7 +2,6 @@
 
 ghost use Rattle.std.specs.Prelude.{◌≡◌, ◌⊎◌, ◌-◌, ◌<◌, ◌≤◌, ◌^◌, length, max};
 ghost use Rattle.std.specs.Prelude.{Err, None, Some, IsTrue, IfOk, OnErr};
-ghost use Rattle.wit_grammar.specs.Lines.{Begins};
 ghost use Rattle.wit_grammar.specs.declared.parse.TheConstants.{LONGEST};
 ghost use Rattle.wit_model.specs.Trace.Reading.{line_of};
 ghost use Rattle.wit_model.specs.Trace.Moving.{moving_from, moving_outcome, moving_entered};
@@ -21,7 +20,7 @@ use crate::preludes::{self, Reached};
 use crate::texts::join;
 use std::alloc::{AllocError, Global};
 use std::io::{BufRead, Write};
-use wit_grammar::{Begun, LineError, begin_line, finish_line};
+use wit_grammar::{LineError, parse_line};
 use wit_model::{Cause, Line};
 use wit_stream::{Failures, Machine, Pace, Ports, ReplayError, Step, Summary, run};
 use wit_trace::{Prelude, read_line};
@@ -127,21 +126,14 @@ impl Migrating {
     }
 
     // A line in its place.
-    fn read(
-        &mut self,
-        alloc: Global,
-        number: u64,
-        bytes: &[u8],
-        begun: Option<Begun>,
-    ) -> Result<Vec<u8>, LineError>
+    fn read(&mut self, alloc: Global, number: u64, bytes: &[u8]) -> Result<Vec<u8>, LineError>
         requires room { moving_reports (moved_to self.old) < 2 ^ 64 - 1 }
         requires few { weighed (moved_to self.old) < 2 ^ 64 - 1 }
         requires short { length bytes.now ≤ LONGEST }
-        requires begun { Begins begun (line_of bytes.now) }
         ensures { MovesAsDue (moving_outcome (moved_to self.old) number bytes.now)
             (moved_to self.old) (moved_to self.new) result }
     {
-        let line = finish_line(alloc, begun)?;
+        let line = parse_line(alloc, bytes)?;
         self.enter(alloc, number, line, bytes)
     }
 
@@ -181,29 +173,12 @@ impl Migrating {
         requires { MayMove self.old number bytes.now text.old.items }
         ensures { IfOk result (HasMoved self.old number bytes.now self.new text.new.items) }
     {
-        self.any_line(alloc, number, bytes, begin_line(bytes), text)
-    }
-
-    // A line of any kind, of which the first word was read.
-    #[inline(never)]
-    pub fn any_line(
-        &mut self,
-        alloc: Global,
-        number: u64,
-        bytes: &[u8],
-        begun: Option<Begun<'_>>,
-        text: &mut Vec<u8>,
-    ) -> Result<Step, AllocError>
-        requires ready { MayMove self.old number bytes.now text.old.items }
-        requires begun { Begins begun (line_of bytes.now) }
-        ensures { IfOk result (HasMoved self.old number bytes.now self.new text.new.items) }
-    {
         let reached = self.reach(alloc, number, bytes)?;
         let found = self.found();
         if let Some((number, cause)) = reached.refused {
             return self.ended_step(alloc, reached.text, found, number, cause, text);
         }
-        match self.read(alloc, number, bytes, begun) {
+        match self.read(alloc, number, bytes) {
             Ok(more) => {
                 *text = join(reached.text, &more)?;
                 Ok(Step::Goes)
@@ -239,7 +214,7 @@ impl Machine for Migrating {
         text: &mut Vec<u8>,
     ) -> Result<Step, AllocError> {
         match self {
-            Migrating::Moved(_) => read_line(self, alloc, (), number, bytes, text),
+            Migrating::Moved(behind) => read_line(behind, alloc, (), number, bytes, text),
             Migrating::Unmoved | Migrating::Keeping { .. } => {
                 self.opening_line(alloc, number, bytes, text)
             }

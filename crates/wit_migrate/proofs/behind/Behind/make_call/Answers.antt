@@ -13,7 +13,7 @@ returns-in_err-remark-in-Asserts c =
     (λ n. calls s n (Asserts c.in-Asserts.seat.0 c.in-Asserts.lock c.in-Asserts.asserted))
     c.remark.new.remarks c.in_err-remark-in-Asserts.field-0.0 c.remark.result
     c.assertion-said.result c.from_residual.result c.assertion-said.ensures
-    c.remark.ensures.same c.in_err-remark-in-Asserts.was c.from_residual.ensures.1)
+    c.remark.ensures.refused c.remark.ensures.same c.in_err-remark-in-Asserts.was c.from_residual.ensures.1)
 
 pub returns-in_err-remark-in-Warns : goal.returns-in_err-remark-in-Warns
 returns-in_err-remark-in-Warns c =
@@ -23,7 +23,8 @@ returns-in_err-remark-in-Warns c =
     (λ n. calls s n (Warns c.in-Warns.seat.0 c.in-Warns.lock c.in-Warns.flags))
     c.remark-in-Warns.new.remarks c.in_err-remark-in-Warns.field-0.0 c.remark-in-Warns.result
     c.warning-said.result c.from_residual-in_err-remark-in-Warns.result
-    c.warning-said.ensures c.remark-in-Warns.ensures.same c.in_err-remark-in-Warns.was
+    c.warning-said.ensures c.remark-in-Warns.ensures.refused
+    c.remark-in-Warns.ensures.same c.in_err-remark-in-Warns.was
     c.from_residual-in_err-remark-in-Warns.ensures.1)
 
 pub returns-in_ok-line_in-in-Warns : goal.returns-in_ok-line_in-in-Warns

@@ -1,5 +1,4 @@
-use Rattle.wit_model.specs.Trace.Reading.{line_of}
 use Rattle.wit_migrate.proofs.migrating.Migrating.read.Goals as goal
 
 pub enter-requires-clause-found : goal.enter-requires-clause-found
-enter-requires-clause-found c = c.in_ok-line.ensures (line_of c.args.bytes.now) c.requires.begun
+enter-requires-clause-found c = c.in_ok-line.ensures.read c.requires.short

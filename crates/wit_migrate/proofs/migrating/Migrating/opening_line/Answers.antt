@@ -6,7 +6,7 @@ use Rattle.wit_stream.specs.declared.summary.Summary.{Summary}
 use Rattle.wit_migrate.proofs.MigrateLemmas.{line-goes, line-bad, ended-moved}
 use Rattle.wit_migrate.proofs.MigrateReports.{written_one}
 use Rattle.wit_migrate.proofs.Weights.{written_weighs}
-use Rattle.wit_migrate.proofs.migrating.Migrating.any_line.Goals as goal
+use Rattle.wit_migrate.proofs.migrating.Migrating.opening_line.Goals as goal
 
 pub returns-in_ok-text-in-Ok : goal.returns-in_ok-text-in-Ok
 returns-in_ok-text-in-Ok c = (
@@ -22,16 +22,20 @@ returns-in_ok-text-in-Ok c = (
       subst (λ t. IsMigrated (moving_from old n (line ∷ lines) tail) (t ++ more) summary) (sym text)
       (line-goes old q n line before over (moved_to c.read.new.self) c.in-Ok.more.items
       c.in-Ok.ensures lines tail more summary h),
-  let one =
-      written_one (moved_to c.reach.new.self) (moved_to c.read.new.self) c.args.number
-      c.args.bytes.now c.in-Ok.more.items c.in-Ok.ensures in
-      let before = c.in_ok-reached.ensures.counted in
-      omega (arith, one, before),
-  let one =
-      written_weighs (moved_to c.reach.new.self) (moved_to c.read.new.self) c.args.number
-      c.args.bytes.now c.in-Ok.more.items c.in-Ok.ensures in
-      let before = c.in_ok-reached.ensures.weighed in
-      omega (arith, one, before),
+  record {
+    counts =
+        let one =
+        written_one (moved_to c.reach.new.self) (moved_to c.read.new.self) c.args.number
+        c.args.bytes.now c.in-Ok.more.items c.in-Ok.ensures in
+        let before = c.in_ok-reached.ensures.counted in
+        omega (arith, one, before);
+    weighs =
+        let one =
+        written_weighs (moved_to c.reach.new.self) (moved_to c.read.new.self) c.args.number
+        c.args.bytes.now c.in-Ok.more.items c.in-Ok.ensures in
+        let before = c.in_ok-reached.ensures.weighed in
+        omega (arith, one, before);
+  },
 )
 
 pub returns-in-Err-Bad : goal.returns-in-Err-Bad
