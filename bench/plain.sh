@@ -3,9 +3,9 @@
 # or on those that docs/SPEED.md has of it. What the two write must be the same. A line a trace: the least processor
 # time of three runs of each, in turn, what that makes a line, and the ratio. A name with a 2 behind it (hot2) is that
 # of the trace in version 2, as the program migrates it; the trace itself is replayed in turn with it, and what is
-# written must be the same again. Two columns more are the times of version 2 over those of version 1. WITNESS names
-# another program to measure, RUNS how often each runs, TRACES a folder in which the traces stay for the next time, and
-# RUSTC another compiler.
+# written must be the same again. Two columns more are the times of version 2 over those of version 1, and a third that
+# of `migrate` over the replay of the trace. WITNESS names another program to measure, RUNS how often each runs, TRACES a
+# folder in which the traces stay for the next time, and RUSTC another compiler.
 set -e
 here=$(dirname "$(readlink -f "$0")")
 program=${WITNESS:-$here/../crates/witness/out/witness}
@@ -46,13 +46,19 @@ for command, text in zip(commands, texts):
     run(*command, text)
 if not all(filecmp.cmp(texts[0], text, shallow=False) for text in texts[1:]):
     sys.exit(f"bench: {name}: different texts are written")
+if len(traces) > 1:
+    commands.append(([program, "migrate"], traces[1]))
 used = [min(each) for each in zip(*([run(*it, "/dev/null") for it in commands] for _ in range(int(runs))))]
-growth = "".join(f" {new / old:{width}.2f}" for new, old, width in zip(used, used[2:], (7, 9)))
+growth = ""
+if len(traces) > 1:
+    new, plain_new, old, plain_old, migrated = used
+    growth = f" {new / old:7.2f} {plain_new / plain_old:9.2f} {migrated / old:9.2f}"
 print(f"{name:8} {lines:9} {used[0]:10.3f} {used[1]:8.3f} {used[0] / lines * 1e9:8.0f} {used[1] / lines * 1e9:8.0f}"
       f" {used[0] / used[1]:6.2f}{growth}", flush=True)
 END_OF_PYTHON
 
-printf '%-8s %9s %10s %8s %8s %8s %6s %7s %9s\n' trace lines witness-s plain-s ns/line plain-ns ratio 2/1 plain-2/1
+printf '%-8s %9s %10s %8s %8s %8s %6s %7s %9s %9s\n' \
+    trace lines witness-s plain-s ns/line plain-ns ratio 2/1 plain-2/1 migrate/1
 for name; do
     first=${name%2}
     [ -f "$traces/$first" ] || "$here/make_trace.sh" "$first" >"$traces/$first"
