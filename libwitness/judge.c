@@ -167,7 +167,7 @@ void judge_made(int stream, const struct thread *thread, const struct lock *lock
     const char *of = *type_name(type) ? type_name(type) : name_type(lock->type, type);
     name_lock(name, lock, of);
     int64_t made = wit_init(&place, (uint16_t)thread->seat[stream], name, strlen(name), of, strlen(of),
-        lock->type->class == RWLOCK ? WIT_RW : WIT_SLEEP_MUTEX,
+        lock->type->class == RWLOCK || lock->type->class == TOLD_RWLOCK ? WIT_RW : WIT_SLEEP_MUTEX,
         (uint8_t)((lock->recursive ? WIT_LOCK_RECURSABLE : 0) | (is_doubled(of) ? WIT_LOCK_DUPOK : 0)));
     if (made < 0)
         ends(made);

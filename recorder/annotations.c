@@ -12,7 +12,7 @@ static __thread bool asks __attribute__((tls_model("initial-exec")));
 
 static enum class class_of(int how)
 {
-    return how == WITNESS_MUTEX ? SPIN : RWLOCK;
+    return how == WITNESS_MUTEX ? SPIN : TOLD_RWLOCK;
 }
 
 static enum mode mode_of(int how)
@@ -55,6 +55,8 @@ static void ask(const volatile void *lock, int how, struct caller caller)
         end_request(NULL, false);
     if (request_begins(&asked, (const void *)lock, class_of(how), mode_of(how), caller, ASKS)) {
         asks = true;
+        if (UNLIKELY(asked.again != NULL) && asked.mode == SHARED)
+            error_of_reread(&asked);
         self.state = STARTING;
     }
     site_callers_end();

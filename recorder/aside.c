@@ -42,10 +42,26 @@ __asm__(".text\n"
         ".cfi_endproc\n"
         ".size switch_stack, . - switch_stack\n");
 
+bool is_on_other_stack(void)
+{
+    return (uintptr_t)__builtin_frame_address(0) - self.other_stack < self.other_size;
+}
+
 static bool is_on_small_stack(void)
 {
-    stack_t own;
-    return sigaltstack(NULL, &own) == 0 && (own.ss_flags & SS_ONSTACK) && own.ss_size < SMALL_MOST;
+    return self.other_size < SMALL_MOST && is_on_other_stack();
+}
+
+/* Where the thread's stack for handlers lies is remembered: to ask the kernel at each call would take too long. */
+EXPORT int sigaltstack(const stack_t *restrict given, stack_t *restrict before)
+{
+    start();
+    int answer = real.sigaltstack(given, before);
+    if (answer == 0 && given) {
+        self.other_stack = (uintptr_t)given->ss_sp;
+        self.other_size = given->ss_flags & SS_DISABLE ? 0 : given->ss_size;
+    }
+    return answer;
 }
 
 /* The kernel's call: the C library's takes more stack, and keeps two of its own signals from being blocked. */

@@ -5,6 +5,18 @@
 
 static int mutex_lock(void *mutex) { return real.mutex_lock(mutex); }
 static int mutex_try(void *mutex) { return real.mutex_trylock(mutex); }
+
+/*
+ * A robust mutex that can't be recovered is left as taken by a try (glibc), so that others wait for it for good. It isn't
+ * tried: the call with a time limit comes at once.
+ */
+static int mutex_look(void *mutex)
+{
+    enum { ROBUST = 16 };
+    const pthread_mutex_t *robust = mutex;
+    return UNLIKELY(robust->__data.__kind & ROBUST) ? EBUSY : real.mutex_trylock(mutex);
+}
+
 static int mutex_timed(void *mutex, const struct timespec *limit) { return real.mutex_timedlock(mutex, limit); }
 static int read_lock(void *lock) { return real.rwlock_rdlock(lock); }
 static int read_try(void *lock) { return real.rwlock_tryrdlock(lock); }
@@ -29,10 +41,10 @@ static int spin_timed(void *lock, const struct timespec *limit)
     }
 }
 
-static const struct way mutex_way = {MUTEX, EXCLUSIVE, mutex_lock, mutex_try, mutex_timed};
-static const struct way read_way = {RWLOCK, SHARED, read_lock, read_try, read_timed};
-static const struct way write_way = {RWLOCK, EXCLUSIVE, write_lock, write_try, write_timed};
-static const struct way spin_way = {SPIN, EXCLUSIVE, spin_lock, spin_try, spin_timed};
+static const struct way mutex_way = {MUTEX, EXCLUSIVE, mutex_lock, mutex_try, mutex_timed, mutex_look};
+static const struct way read_way = {RWLOCK, SHARED, read_lock, read_try, read_timed, read_try};
+static const struct way write_way = {RWLOCK, EXCLUSIVE, write_lock, write_try, write_timed, write_try};
+static const struct way spin_way = {SPIN, EXCLUSIVE, spin_lock, spin_try, spin_timed, spin_try};
 
 /* POSIX's calls answer as they are answered. */
 static int posix(int answer)

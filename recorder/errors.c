@@ -92,6 +92,25 @@ void error_of_freed(struct lock *lock)
         tell(ERROR_FREED, lock, held->place);
 }
 
+/*
+ * The lock is one that a writer has before further readers, where that is its kind: then a writer that waits in between
+ * waits for the thread, and the thread for the writer. Whether a lock that the program tells of is so isn't known.
+ */
+COLD void error_of_reread(struct request *request)
+{
+    const struct lock *lock = request->lock;
+    const pthread_rwlock_t *own = (const void *)atomic_load(&lock->address);
+    bool is_told = lock->type->class == TOLD_RWLOCK;
+    if (!is_told && own->__data.__flags != PTHREAD_RWLOCK_PREFER_WRITER_NONRECURSIVE_NP)
+        return;
+    if (!recorder_enters())
+        return;
+    count_missed_all(MISSED_REREADS);
+    if (!is_told)
+        tell(ERROR_REREAD, request->lock, request->place);
+    recorder_leaves();
+}
+
 void error_of_wait(const pthread_mutex_t *mutex, struct caller caller)
 {
     if (mutex->__data.__lock == 0 || ((mutex->__data.__kind & 3) != PTHREAD_MUTEX_ADAPTIVE_NP && mutex->__data.__owner != 0

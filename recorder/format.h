@@ -7,7 +7,7 @@
 #define RECORDER_FORMAT_H
 
 /* The first line of a stream is `asked 0 version N missed`, then the names of the counts, each with its count. */
-#define FORMAT_VERSION 4
+#define FORMAT_VERSION 5
 #define WORD_ASKED "asked"
 #define WORD_VERSION "version"
 #define WORD_MISSED "missed"
@@ -36,6 +36,9 @@ enum { ASKED_AT = 6, ASKED_NOT = '0', ASKED_NOW = '1', ASKED_ALWAYS = '3' };
 #define WORD_CROWDED "crowded"
 #define WORD_NAMED "named"
 #define WORD_INIT "init"
+/* Its flags: the lock is recursive; other processes may have it, too. */
+#define INIT_RECURSIVE "r"
+#define INIT_SHARED "s"
 #define WORD_THREAD "thread"
 /* What stands where there is no name. */
 #define NO_NAME "-"
@@ -68,7 +71,8 @@ enum { ASKED_AT = 6, ASKED_NOT = '0', ASKED_NOW = '1', ASKED_ALWAYS = '3' };
     EACH(ERROR_DESTROYED, "destroyed")                                                                                 \
     EACH(ERROR_FREED, "freed")                                                                                         \
     EACH(ERROR_REMADE, "remade")                                                                                       \
-    EACH(ERROR_WAITED, "waited")
+    EACH(ERROR_WAITED, "waited")                                                                                       \
+    EACH(ERROR_REREAD, "reread")
 
 /*
  * The orders of single locks, and when threads were made and joined (singles.c). A thread tells of its order again when it
@@ -81,8 +85,8 @@ enum { ASKED_AT = 6, ASKED_NOT = '0', ASKED_NOW = '1', ASKED_ALWAYS = '3' };
 #define WORD_JOINED "joined"
 
 /*
- * The counts of a stream: calls that it lacks; two of which it has a line for each place alone; and locks in blocks of
- * memory that aren't known.
+ * The counts of a stream: calls that it lacks; two of which it has a line for each place alone; locks in blocks of memory
+ * that aren't known; and those that were read again by a thread that read them, where a writer may come in between.
  */
 #define EACH_MISSED(EACH)                                                                                              \
     EACH(MISSED_SEATS, "seats")                                                                                        \
@@ -92,7 +96,8 @@ enum { ASKED_AT = 6, ASKED_NOT = '0', ASKED_NOW = '1', ASKED_ALWAYS = '3' };
     EACH(MISSED_LOG, "log")                                                                                            \
     EACH(MISSED_RELEASES, "releases")                                                                                  \
     EACH(MISSED_AGAIN, "again")                                                                                        \
-    EACH(MISSED_BLOCKS, "blocks")
+    EACH(MISSED_BLOCKS, "blocks")                                                                                      \
+    EACH(MISSED_REREADS, "rereads")
 
 /*
  * The counts of a process, in the status. What failed outside the streams: lines for which the file couldn't be opened,
@@ -121,6 +126,9 @@ enum { ASKED_AT = 6, ASKED_NOT = '0', ASKED_NOW = '1', ASKED_ALWAYS = '3' };
 #define STATUS_FULL "full"
 /* Objects stand there too; this is one where there were too many. */
 #define STATUS_MORE_OBJECTS "?"
+/* And those that were opened so that their calls go past the recorder (libraries.c); then that semaphores were, which aren't recorded. */
+#define STATUS_PAST "past"
+#define STATUS_SEMAPHORES "semaphores"
 enum { STATUS_BYTES = 1 << 20, STATUS_DIGITS = 7 };
 
 /* Of the locks of one call, or of one allocation, so many offsets in blocks are types of their own (docs/RECORDER.md). */

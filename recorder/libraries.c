@@ -1,38 +1,47 @@
 /*
- * The libraries that a program opens while it runs: what it has opened before is looked at, since now it may still open
- * files, and the one that it opens is noted by the name that it is asked for by. So it is known of which libraries the
- * locks aren't seen.
+ * The libraries that a program opens while it runs. The one that it opens is noted by the name that it is asked for by, and
+ * the thread looks at what is loaded at its next call (objects.c): by then the library is, whose constructors may be what
+ * calls. The real functions go by who has called them, so they are come to by a jump, and nothing is done after them.
+ *
+ * A library that is opened with RTLD_DEEPBIND, or in a namespace of its own, has the C library's own calls. To leave that
+ * bit out would give it other symbols than it was made for. So its locks aren't seen, and that is noted.
  */
 #include "quick.h"
 
+#include <dlfcn.h>
 #include <string.h>
+#include <unistd.h>
 
-static bool unknown; /* the last one was asked for without its folder */
+/* Nothing is opened where no file of that name is, nor where an object of it is there already. */
+static bool is_opened_past(const char *name)
+{
+    return !strchr(name, '/') || (access(name, F_OK) == 0 && !object_is_known(name));
+}
 
-static COLD void library_opens(const char *name, uintptr_t stack)
+static COLD void library_opens(const char *name, bool past, uintptr_t stack)
 {
     if (!name || !goes_far_inside(stack))
         return;
     if (recorder_enters()) {
-        objects_noted();
+        if (past && is_opened_past(name))
+            status_object_past(name);
         status_object(name);
-        unknown = !strchr(name, '/');
         recorder_leaves();
     }
-    goes_outside(&self);
+    self.looks = true;
+    self.state = UNREADY;
 }
 
-/* The program ends: only now is it known which one that was. */
-void libraries_end(void)
-{
-    if (unknown)
-        objects_noted();
-}
-
-/* The real function goes by who has called it, so it is come to by a jump. */
 EXPORT void *dlopen(const char *name, int how)
 {
     start();
-    library_opens(name, HERE);
+    library_opens(name, how & RTLD_DEEPBIND, HERE);
     return real.dlopen(name, how);
+}
+
+EXPORT void *dlmopen(Lmid_t space, const char *name, int how)
+{
+    start();
+    library_opens(name, space != LM_ID_BASE || (how & RTLD_DEEPBIND), HERE);
+    return real.dlmopen(space, name, how);
 }

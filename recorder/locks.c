@@ -189,11 +189,11 @@ static struct type *type_of(const struct type *wanted)
  * A name for a lock that has none, NULL where there is no room for one. A lock in an object has the name of its variable
  * alone; any other may have that of one that is gone.
  */
-static struct name *name_for(struct type *type, uintptr_t address, bool recursive)
+static struct name *name_for(struct type *type, uintptr_t address, const struct lock *lock)
 {
     uintptr_t variable = type->anchor ? address : 0;
     struct name *before = NULL, *name = type->first_free;
-    while (name && (name->variable != variable || name->recursive != recursive)) {
+    while (name && (name->variable != variable || name->recursive != lock->recursive || name->shared != lock->shared)) {
         before = name;
         name = name->next;
     }
@@ -202,7 +202,10 @@ static struct name *name_for(struct type *type, uintptr_t address, bool recursiv
         if (!name)
             return NULL;
         names_taken++;
-        *name = (struct name){.variable = variable, .number = ++type->names_made, .recursive = recursive};
+        *name = (struct name){.variable = variable,
+            .number = ++type->names_made,
+            .recursive = lock->recursive,
+            .shared = lock->shared};
         return name;
     }
     if (before)
@@ -267,8 +270,11 @@ static _Atomic uint32_t serials;
 
 static void read_kind(struct lock *lock, const void *address, enum class class)
 {
+    enum { SHARED_BY_PROCESSES = 128 };
     int kind = class == MUTEX ? ((const pthread_mutex_t *)address)->__data.__kind : 0;
     bool robust = kind & 16;
+    lock->shared = class == MUTEX ? kind & SHARED_BY_PROCESSES
+                                  : class == RWLOCK && ((const pthread_rwlock_t *)address)->__data.__shared;
     lock->recursive = class == MUTEX && (kind & 3) == PTHREAD_MUTEX_RECURSIVE_NP;
     lock->loses = class == SPIN || class == SEMAPHORE
         || (class == MUTEX && !robust
@@ -284,7 +290,7 @@ static struct lock *add(const void *address, const struct type *wanted)
         return NULL;
     }
     read_kind(lock, address, wanted->class);
-    lock->name = name_for(type, (uintptr_t)address, lock->recursive);
+    lock->name = name_for(type, (uintptr_t)address, lock);
     if (!lock->name) {
         count_missed_all(MISSED_LOCKS);
         return NULL;
@@ -510,8 +516,7 @@ void locks_left(uintptr_t from, uintptr_t to, uint32_t youngest)
     goes_outside(&self);
 }
 
-/* The object is no longer mapped, and its locks are gone with it. Nothing is read at their addresses. */
-static void forget_object(uintptr_t from, uintptr_t to)
+void object_gone(uintptr_t from, uintptr_t to)
 {
     for (uint32_t i = 0; i < locks_taken; i++) {
         struct lock *lock = lock_numbered(i);
@@ -528,9 +533,6 @@ void library_closed(void)
 {
     if (!goes_far_inside(HERE))
         return;
-    if (recorder_enters()) {
-        objects_closed(forget_object);
-        recorder_leaves();
-    }
+    objects_look();
     self.state = OPEN;
 }

@@ -56,7 +56,7 @@ static const char *const openmp[] = {"libgomp.so.1", "libomp.so.5", "libomp.so",
         (void)unused;                                                                                      \
         return kind##_lock(lock);                                                                          \
     }                                                                                                      \
-    static const struct way kind##_way = {SPIN, EXCLUSIVE, kind##_lock, kind##_try, kind##_timed}
+    static const struct way kind##_way = {SPIN, EXCLUSIVE, kind##_lock, kind##_try, kind##_timed, kind##_try}
 
 WAY(glib, glib, "g_mutex_lock", "g_mutex_trylock");
 WAY(omp, openmp, "omp_set_lock", "omp_test_lock");

@@ -375,6 +375,8 @@ COLD static void unwind(struct caller caller, struct stack *stack)
         stack->frames[stack->count++] = (struct frame){caller.pc, caller.stack, 0, false};
     uintptr_t last = stack->frames[stack->count - 1].pc;
     bool blind = stack->count < FRAMES && !has_tables(last);
+    if (!objects_are_found())
+        objects_look();
     if (!recorder_enters())
         return;
     if (blind && !is_complete(stack))

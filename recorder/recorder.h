@@ -17,7 +17,7 @@
  *   locks.c     the locks at their addresses, and their types
  *   blocks.c    the blocks of memory that they are in, where that is asked for; malloc/, its interposed calls
  *   aside.c     a stack of the recorder's own, for handlers that have a small one
- *   places.c    the callers of a call; objects.c finds their object and name; sites.c, places by name
+ *   places.c    the callers of a call; objects.c finds their object, elf_symbols.c its symbols; sites.c, places by name
  *   stacks.c    the callers of what is written
  *   seats.c     seats, and the numbers of types, locks and places in a stream
  *   pairs.c     the pairs of types that the condensed stream tells of
@@ -74,7 +74,8 @@ enum { SEATS = 256, TYPES = 1023, LOCKS = 65536 };
 #define SERIAL_BITS 28
 #define ORDER_LONGEST 24u /* locks of an order of single ones; of a longer chain it isn't told */
 
-enum class { MUTEX, RWLOCK, SPIN, SEMAPHORE };
+/* TOLD_RWLOCK: one that the program tells of (annotations.c), whose memory is never read. */
+enum class { MUTEX, RWLOCK, SPIN, SEMAPHORE, TOLD_RWLOCK };
 enum mode { SHARED, EXCLUSIVE };
 
 /* The number of a thing in each stream, 0 before it has one. A forked child begins a life with none. */
@@ -146,7 +147,8 @@ struct type {
 struct name {
     uintptr_t variable; /* the address of a lock that stands in an object, else 0 */
     uint32_t number;    /* among the names of the type, from 1 on */
-    bool recursive;     /* as the lock is */
+    bool recursive;     /* as the lock is, and the next */
+    bool shared;
     struct name *next;  /* among the free ones of the type */
     struct marks marks;
 };
@@ -159,6 +161,7 @@ struct lock {
     _Atomic uint32_t lost;     /* how often it was given up by other means than an unlock of its holder */
     uint32_t serial;           /* no other lock of this process has it, before or after */
     bool recursive;
+    bool shared;               /* other processes may have it, too */
     bool loses;                /* an unlock by another thread than the holder succeeds */
     _Atomic bool left_alone;   /* a semaphore that was made as a lock is, and isn't one */
     struct marks marks;
@@ -212,7 +215,10 @@ struct thread {
     uint32_t asked[STREAMS];     /* the number of the lock whose request is pending there, 0 for none */
     bool asks_for_a_time;        /* the request that was written last ends by itself */
     struct held few[HELD_FEW];
+    uintptr_t other_stack; /* where its stack for handlers begins, as it was set last, and how long that is */
+    size_t other_size;
     bool is_aside; /* on a stack of the recorder's own */
+    bool looks;    /* at what is loaded, at its next call: it has opened a library */
     uint32_t serial; /* no other thread of this process has it; above SERIAL_BITS, how many threads it has made, 7 at most */
     uint32_t made; /* the place where the thread was made; 0 of the first one, or where that isn't known */
     uint32_t maker;   /* the thread that made it, as the kernel counts; 0 of the first one, or where that isn't known */
@@ -298,6 +304,7 @@ struct real {
     int (*c11_join)(thrd_t, int *);
     int (*dlclose)(void *);
     void *(*dlopen)(const char *, int);
+    void *(*dlmopen)(long, const char *, int);
     int (*system)(const char *);
     FILE *(*popen)(const char *, const char *);
     int (*execve)(const char *, char *const[], char *const[]);
@@ -312,6 +319,7 @@ struct real {
     handler *(*signal)(int, handler *);
     handler *(*sysv_signal)(int, handler *);
     handler *(*sigset)(int, handler *);
+    int (*sigaltstack)(const stack_t *, stack_t *);
     void (*free)(void *);
     int (*register_atfork)(void (*)(void), void (*)(void), void (*)(void), void *);
 };
@@ -348,6 +356,8 @@ extern _Atomic bool has_small_stacks; /* and one that has a stack of its own */
  * Where no handler has one, it is called at once.
  */
 void aside(void (*function)(void *), void *argument);
+/* Whether a handler of signals runs on a stack that the program gave for that. */
+bool is_on_other_stack(void);
 
 static inline bool may_be_on_small_stack(void)
 {
@@ -436,6 +446,8 @@ void lock_made_as(const void *address, enum class class, struct caller caller, c
 void lock_gone(const void *address);
 void locks_freed(const void *block);
 void library_closed(void);
+/* The object that lay there is loaded no longer, and its locks are gone with it. Nothing is read there. Under the mutex. */
+void object_gone(uintptr_t from, uintptr_t to);
 void lock_given_up(struct lock *lock);
 /* The serial number of the youngest lock; and those up to that one which were there are gone. Nothing is read there. */
 uint32_t lock_youngest(void);
@@ -526,7 +538,7 @@ void site_callers_end(void);
 const char *type_label(const char *name);
 
 /* objects.c */
-uint32_t object_of(uintptr_t address, bool look); /* 0 for none; looks for new objects where it is told to */
+uint32_t object_of(uintptr_t address, bool look); /* 0 for none; asks the dynamic linker where it is told to */
 uint64_t object_offset(uint32_t object, uintptr_t address);
 const char *object_path(uint32_t object);
 const char *object_called(uint32_t object); /* the name that is told in place of its file's, NULL where there is none */
@@ -537,12 +549,13 @@ struct marks *object_end_marks(uint32_t object); /* NULL where none has */
 /* The name of the function or variable there, or an empty one; *from is where it begins, and *size how long it is. */
 const char *object_symbol(uint32_t object, uintptr_t address, bool function, uintptr_t *from, uint64_t *size);
 const char *object_symbol_file(uint32_t object, uintptr_t address);
+/* Whether an object of that file is loaded. */
+bool object_is_known(const char *path);
+/* What is loaded by now, looked at outside the mutex: when the program begins, and where it has opened or closed a library. */
 void objects_begin(void);
-void objects_noted(void);
-void objects_closed(void (*gone)(uintptr_t from, uintptr_t to));
-
-/* libraries.c */
-void libraries_end(void);
+void objects_look(void);
+/* Whether the object of an address can be asked for; else objects_look comes before. */
+bool objects_are_found(void);
 
 /* stacks.c */
 extern uint32_t frames_shown; /* how many frames a stack has at most; with 1 there are no stacks */
@@ -583,6 +596,7 @@ void errors_of_thread(void); /* its end is noticed */
 void error_at(enum lock_error error, const void *address, struct caller caller);
 void error_if_held(enum lock_error error, const void *address, struct caller caller); /* by this thread, since the fork */
 void error_of_freed(struct lock *lock); /* inside, before its record is given back */
+void error_of_reread(struct request *request); /* of a rwlock that this thread reads already */
 void error_of_wait(const pthread_mutex_t *mutex, struct caller caller); /* where this thread isn't known to hold it */
 
 /* seats.c */
@@ -654,6 +668,8 @@ void status_starts(const char *program);
 void status_starts_not(void);
 void status_started(pid_t process, const char *program);
 void status_object(const char *path);
+void status_object_past(const char *path); /* it is opened so that its calls don't come here */
+void status_semaphores(void); /* they are waited for, and aren't recorded */
 void count_digits(char *digits);
 void count_failure(enum failure what);
 

@@ -23,9 +23,22 @@ static void leave_alone(struct lock *lock)
     lock_given_up(lock);
 }
 
+/* Semaphores are waited for, and none is recorded: that is noted once. */
+static COLD void note_unseen(uintptr_t stack)
+{
+    static _Atomic bool noted;
+    if (atomic_load_explicit(&noted, memory_order_relaxed) || !goes_far_inside(stack))
+        return;
+    atomic_store(&noted, true);
+    status_semaphores();
+    goes_outside(&self);
+}
+
 static bool begins(struct request *request, sem_t *semaphore, enum asking asking, struct caller caller)
 {
     start();
+    if (!semaphores_are_locks && asking != TRIES && !is_asleep())
+        note_unseen(caller.stack);
     struct lock *lock = lock_of(semaphore);
     if (lock && asking != TRIES && held_of(&self, lock)) {
         leave_alone(lock);

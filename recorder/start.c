@@ -76,6 +76,7 @@ static const struct {
     {offsetof(struct real, c11_join), "thrd_join", NULL},
     {offsetof(struct real, dlclose), "dlclose", NULL},
     {offsetof(struct real, dlopen), "dlopen", NULL},
+    {offsetof(struct real, dlmopen), "dlmopen", NULL},
     {offsetof(struct real, system), "system", NULL},
     {offsetof(struct real, popen), "popen", NULL},
     {offsetof(struct real, execve), "execve", NULL},
@@ -88,6 +89,7 @@ static const struct {
     {offsetof(struct real, signal), "signal", NULL},
     {offsetof(struct real, sysv_signal), "__sysv_signal", NULL},
     {offsetof(struct real, sigset), "sigset", NULL},
+    {offsetof(struct real, sigaltstack), "sigaltstack", NULL},
 };
 
 extern char *program_invocation_short_name;
@@ -227,8 +229,7 @@ void start(void)
  */
 static bool has_left(const struct thread *thread, uintptr_t stack)
 {
-    stack_t other;
-    if (thread->state == STARTING || thread->is_aside || (sigaltstack(NULL, &other) == 0 && (other.ss_flags & SS_ONSTACK)))
+    if (thread->state == STARTING || thread->is_aside || is_on_other_stack())
         return false;
     return stack >= thread->state || !call_goes_on(thread->state);
 }
@@ -252,6 +253,11 @@ COLD bool thread_opens(struct thread *thread, uintptr_t stack)
         thread->held = thread->few;
         thread->room = HELD_FEW;
         thread->serial = atomic_fetch_add(&serials, 1) + 1;
+    }
+    if (thread->looks) {
+        thread->looks = false;
+        thread->state = STARTING;
+        objects_look();
     }
     thread->state = OPEN;
     return true;
@@ -383,10 +389,7 @@ static void look_round(void)
 {
     self.state = STARTING;
     say_started();
-    if (recorder_enters()) {
-        objects_begin();
-        recorder_leaves();
-    }
+    objects_begin();
     watches_free = sizes_are_known();
     errors_begin();
     self.state = UNREADY;
@@ -420,9 +423,11 @@ __attribute__((constructor)) static void loaded(void)
 
 __attribute__((destructor)) static void ended(void)
 {
-    if (!atomic_load(&recording) || self.state > OPEN || !recorder_enters())
+    if (!atomic_load(&recording) || self.state > OPEN)
         return;
-    libraries_end();
+    objects_look();
+    if (!recorder_enters())
+        return;
     streams_end();
     recorder_leaves();
     judge_ends();

@@ -179,18 +179,18 @@ void status_started(pid_t process, const char *program)
         write_name(slot + STARTED_AT, " " STATUS_STARTED " ", base_of(program));
 }
 
-static uint64_t hash_of(const char *text)
+static uint64_t hash_of(const char *word, const char *text)
 {
-    uint64_t hash = 0xcbf29ce484222325u;
+    uint64_t hash = 0xcbf29ce484222325u + (unsigned char)word[1]; /* words differ there */
     for (; *text; text++)
         hash = (hash ^ (unsigned char)*text) * 0x100000001b3u;
     return hash | 1;
 }
 
-/* Whether no process has noted the object. With too many of them, none is new. */
-static bool is_new(const char *path)
+/* Whether no process has noted the object by that word. With too many of them, none is new. */
+static bool is_new(const char *word, const char *path)
 {
-    uint64_t hash = hash_of(path), *hashes = (void *)(status + HASHES_AT);
+    uint64_t hash = hash_of(word, path), *hashes = (void *)(status + HASHES_AT);
     for (uint32_t i = 0; i < HASHES; i++) {
         uint64_t found = 0;
         if (__atomic_compare_exchange_n(&hashes[(hash + i) % HASHES], &found, hash, false, __ATOMIC_SEQ_CST,
@@ -203,14 +203,13 @@ static bool is_new(const char *path)
     return false;
 }
 
-/* Notes an object that is loaded, once. Under the mutex. */
-void status_object(const char *path)
+/* Notes an object in a line that begins with the word, once. */
+static void note_object(const char *word, const char *path)
 {
-    static const char word[] = "\n" WORD_OBJECT " ";
-    if (!status || !is_new(path))
+    if (!status || !is_new(word, path))
         return;
     uint64_t *used = (void *)(status + OBJECTS_AT);
-    size_t length = strlen(path), head = sizeof word - 1, whole = head + length + 1;
+    size_t length = strlen(path), head = strlen(word), whole = head + length + 1;
     size_t at = OBJECTS_AT + sizeof *used + __atomic_fetch_add(used, whole, __ATOMIC_SEQ_CST);
     if (at + whole > FULL_AT) {
         memcpy(status + FULL_OBJECTS_AT, full_objects, sizeof full_objects - 1);
@@ -219,6 +218,22 @@ void status_object(const char *path)
     memcpy(status + at, word, head);
     memcpy(status + at + head, path, length);
     status[at + whole - 1] = '\n';
+}
+
+/* It is loaded. Under the mutex. */
+void status_object(const char *path)
+{
+    note_object("\n" WORD_OBJECT " ", path);
+}
+
+void status_object_past(const char *path)
+{
+    note_object("\n" STATUS_PAST " ", path);
+}
+
+void status_semaphores(void)
+{
+    note_object("\n" STATUS_SEMAPHORES, "");
 }
 
 /* Adds one to a number in decimal digits. */

@@ -13,13 +13,17 @@
 
 #include <errno.h>
 
-/* Its calls answer as those of POSIX: 0 where the lock was got, EBUSY, ETIMEDOUT. */
+/*
+ * Its calls answer as those of POSIX: 0 where the lock was got, EBUSY, ETIMEDOUT. `look` is what comes in the place of
+ * `lock`, to see whether the lock is free: `try`, unless a try does something else to the lock than to ask for it.
+ */
 struct way {
     enum class class;
     enum mode mode;
     int (*lock)(void *);
     int (*try)(void *);
     int (*timed)(void *, const struct timespec *);
+    int (*look)(void *);
 };
 
 static inline bool is_got(int answer)
@@ -53,7 +57,9 @@ static __attribute__((noinline)) int acquire_slowly(const struct way *way, void 
     struct request request;
     if (UNLIKELY(!request_begins(&request, address, way->class, way->mode, caller, ASKS)))
         return way->lock(address);
-    int answer = request.patient ? way->try(address) : way->lock(address);
+    if (UNLIKELY(request.again != NULL) && way->mode == SHARED)
+        error_of_reread(&request);
+    int answer = request.patient ? way->look(address) : way->lock(address);
     if (UNLIKELY(request.patient && answer == EBUSY))
         answer = wait_patiently(&request, way, address);
     request_ends(&request, is_got(answer));
@@ -83,7 +89,7 @@ QUICK bool quick_call(const struct way *way, void *address, const struct quick *
         *answer = way->lock(address);
         return LIKELY(quick_ends(quick, is_got(*answer), stack));
     }
-    *answer = way->try(address);
+    *answer = way->look(address);
     return LIKELY(quick_ends(quick, is_got(*answer), stack)) && LIKELY(*answer != EBUSY);
 }
 

@@ -775,8 +775,13 @@ void write_init(int stream, struct thread *thread, struct lock *lock)
     uint32_t object = type->object;
     put_text(stream, WORD_INIT);
     put_number(stream, thread->seat[stream]);
-    put_text(stream, type->class == RWLOCK ? " rw " : " mtx ");
-    put_text(stream, lock->recursive ? "r" : "-");
+    put_text(stream, type->class == RWLOCK || type->class == TOLD_RWLOCK ? " rw " : " mtx ");
+    if (lock->recursive)
+        put_text(stream, INIT_RECURSIVE);
+    if (lock->shared)
+        put_text(stream, INIT_SHARED);
+    if (!lock->recursive && !lock->shared)
+        put_text(stream, NO_NAME);
     put_number(stream, *mark(&type->marks, stream));
     put_number(stream, lock->name->number);
     if (object)

@@ -11,6 +11,7 @@ static const struct {
     {"freed", "the memory of a lock was freed while it was held, taken here:"},
     {"remade", "a lock was made anew while it was held:"},
     {"waited", "a condition was waited for without its mutex:"},
+    {"reread", "a lock was read again by a thread that read it, and a writer that waits in between stops both:"},
 };
 
 const char *error_text(const struct event *event)

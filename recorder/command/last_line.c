@@ -47,12 +47,23 @@ static char *silenced(struct run *run)
     return text;
 }
 
+/* The text with what is in a library that was opened so that its calls go past the recorder: a text of one's own. */
+static char *and_past(char *text, const char *library)
+{
+    const char *slash = strrchr(library, '/');
+    char *longer = say_text("%s%slocks of %s", text, *text ? ", " : "", slash ? slash + 1 : library);
+    free(text);
+    return longer;
+}
+
 /* Where locks weren't seen, the end of the last line; else an empty text. */
 static char *not_seen(const struct run *run)
 {
     size_t count = 0;
     char **objects = objects_of_run(run, &count);
-    char *locks = unseen_locks((const char *const *)objects, count);
+    char *locks = unseen_locks((const char *const *)objects, count, run->status.has_semaphores);
+    for (size_t i = 0; i < run->status.pasts; i++)
+        locks = and_past(locks, run->status.past[i]);
     char *text = *locks ? say_text("; not seen: %s (see record(1))", locks) : copy("");
     for (size_t i = 0; i < count; i++)
         free(objects[i]);

@@ -4,6 +4,7 @@
 #ifndef RECORD_NOTES_H
 #define RECORD_NOTES_H
 
+#include <stdbool.h>
 #include <stddef.h>
 #include <stdint.h>
 
@@ -85,6 +86,7 @@ struct notes {
     size_t wholes, whole_room;
     struct single single;   /* the orders of single locks */
     unsigned long pending;  /* requests that never ended */
+    bool has_shared;        /* a lock may be taken by other processes, too */
     void *texts;            /* what the texts stand in */
 };
 

@@ -8,7 +8,7 @@
 #include <stddef.h>
 #include <stdint.h>
 
-enum { SEARCH_MOST = 32, SEARCH_PAIRS = 1 << 16 };
+enum { SEARCH_MOST = 64, SEARCH_PAIRS = 1 << 16 };
 
 /* A new struct is all zeroes. */
 struct search {

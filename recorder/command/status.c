@@ -79,11 +79,15 @@ static bool is_process(const char *line)
 /* The number of the process whose line it is; 0 where it is no process's. */
 static long read_line(struct status *status, char *line)
 {
-    static const char object[] = WORD_OBJECT " ";
+    static const char object[] = WORD_OBJECT " ", past[] = STATUS_PAST " ";
     if (strcmp(line, STATUS_FULL) == 0) {
         status->is_full = true;
+    } else if (strcmp(line, STATUS_SEMAPHORES) == 0) {
+        status->has_semaphores = true;
     } else if (strncmp(line, object, sizeof object - 1) == 0) {
         ADD(status->object, status->objects, status->object_room) = copy(line + sizeof object - 1);
+    } else if (strncmp(line, past, sizeof past - 1) == 0) {
+        ADD(status->past, status->pasts, status->past_room) = copy(line + sizeof past - 1);
     } else if (is_process(line)) {
         read_parts(status, strtol(line + 1, NULL, 10), line + 2 + STATUS_DIGITS);
         return strtol(line + 1, NULL, 10);
@@ -116,6 +120,9 @@ void status_end(struct status *status)
         free(status->bare[i].name);
     for (size_t i = 0; i < status->objects; i++)
         free(status->object[i]);
+    for (size_t i = 0; i < status->pasts; i++)
+        free(status->past[i]);
+    free(status->past);
     free(status->failed);
     free(status->bare);
     free(status->loaded);

@@ -33,6 +33,9 @@ struct status {
     size_t loads, loaded_room;
     char **object; /* names by which objects were loaded or opened; ? where there were too many */
     size_t objects, object_room;
+    char **past;   /* libraries that were opened so that their calls go past the recorder */
+    size_t pasts, past_room;
+    bool has_semaphores; /* they were waited for, and not recorded */
 };
 
 /* `first` and `program` are the number and the name of the process that has to be among them; 0 where there is none. */

@@ -178,10 +178,14 @@ void tell_new_reports(struct process *process)
 static void look_for_premises(struct process *process)
 {
     struct run *run = process->run;
-    unsigned long releases;
+    unsigned long releases, rereads;
     const char *answer = process->clean ? process->clean : "its trace wasn't looked at";
     if (!stream_count(&process->stream, "releases", &releases) || releases > 0)
         answer = "a lock was released by a thread that didn't hold it";
+    else if (!stream_count(&process->stream, "rereads", &rereads) || rereads > 0)
+        answer = "a thread read a lock again that it read, and a writer may come in between";
+    if (process->notes.has_shared && ++run->sharing > 1)
+        answer = "locks that processes share are judged in each process by itself";
     if (strcmp(answer, "clean") != 0 && !run->unclean)
         run->unclean = say_text("%s: %s", process->name, answer);
 }

@@ -226,7 +226,7 @@ static void keep_lock(struct notes *notes, const char *name, const char *type, s
         };
 }
 
-/* `init SEAT CLASS FLAGS TYPE NUMBER-IN-TYPE`, then the variable where the lock stands in one. */
+/* `init SEAT CLASS FLAGS TYPE NUMBER-IN-TYPE`, then the variable where the lock stands in one. A trace has no flag for processes. */
 static void put_init(struct writing *writing, const struct line *line)
 {
     static struct named_type nameless = {.name = ""};
@@ -249,9 +249,11 @@ static void put_init(struct writing *writing, const struct line *line)
     }
     struct field flags = line->field[3];
     bool in_peace = map_has_text(&writing->making->peace->names, type->name);
+    bool is_recursive = memchr(flags.at, *INIT_RECURSIVE, flags.length);
+    if (writing->notes && memchr(flags.at, *INIT_SHARED, flags.length))
+        writing->notes->has_shared = true;
     put_bytes(writing->trace, line->at, (size_t)(flags.at - line->at));
-    if (!in_peace || !field_is(line, 3, "-"))
-        put_bytes(writing->trace, flags.at, flags.length);
+    fputs(is_recursive ? INIT_RECURSIVE : in_peace ? "" : NO_NAME, writing->trace);
     put_name(writing, in_peace ? "d " : " ", name);
     if (strcmp(name, type->name) != 0)
         put_name(writing, " ", type->name);

@@ -18,22 +18,42 @@ enum { CHUNK_BYTES = 1 << 20 };
 static const struct kind {
     const char *what, *file;
     const char *const *texts;
+    enum {
+        ALWAYS,
+        BY_SEMAPHORES, /* they are a language's, which waits for semaphores of the C library itself */
+        OF_ATOMICS,    /* they wait for atomics of C++20 */
+        ATOMICS,       /* told where none of those that wait so is told */
+    } how;
 } kinds[] = {
 #define TEXTS(...) (const char *const[]){__VA_ARGS__, NULL}
     {"locks of Rust's std", "^libstd-[0-9a-f]+\\.so$",
-        TEXTS("library/std/src/", "3std3sys4sync5mutex5futex", "3std3sys4sync6rwlock5futex", "11futex_mutex5Mutex")},
-    {"locks of Go", NULL, TEXTS("Go buildinf:")},
-    {"locks of Python", "^libpython[0-9.a-z]*\\.so", TEXTS("PyThread_acquire_lock")},
-    {"locks of Java", "^libjvm\\.so", TEXTS(NULL)},
-    {"locks of Ruby", "^libruby[-0-9.a-z]*\\.so", TEXTS("rb_mutex_lock")},
-    {"critical sections of clang's OpenMP", NULL, TEXTS("__kmpc_critical")},
-    {"semaphores of C++20", NULL,
-        TEXTS("__atomic_wait_address", "18__atomic_semaphore", "18__waiter_pool_base", "__libcpp_atomic_wait")},
-    {"absl::Mutex", "^libabsl_synchronization\\.so", TEXTS("AbslInternalPerThreadSemWait")},
-    {"locks of folly", "^libfolly\\.so", TEXTS("5folly6detail13futexWaitImpl", "5folly15SharedMutexImpl")},
-    {"QMutex", "^libQt[0-9]Core[a-z]*\\.so", TEXTS("6QMutex4lockEv", "11QBasicMutex12lockInternalEv")},
-    {"locks of GAsyncQueue", NULL, TEXTS("g_async_queue_lock")},
-    {"more objects than there is room for", "^[" STATUS_MORE_OBJECTS "]$", TEXTS(NULL)},
+        TEXTS("library/std/src/", "3std3sys4sync5mutex5futex", "3std3sys4sync6rwlock5futex", "11futex_mutex5Mutex"), ALWAYS},
+    {"locks of Go", NULL, TEXTS("Go buildinf:"), ALWAYS},
+    {"locks of Python", "^libpython[0-9.a-z]*\\.so", TEXTS("PyThread_acquire_lock"), BY_SEMAPHORES},
+    {"locks of Java", "^libjvm\\.so", TEXTS(NULL), BY_SEMAPHORES},
+    {"locks of Ruby", "^libruby[-0-9.a-z]*\\.so", TEXTS("rb_mutex_lock"), ALWAYS},
+    {"locks of Mono", "^libmono(sgen)?-2\\.0\\.so", TEXTS("mono_monitor_enter"), BY_SEMAPHORES},
+    {"locks of .NET", "^libcoreclr\\.so", TEXTS("JIT_MonEnter"), BY_SEMAPHORES},
+    {"locks of SBCL", NULL, TEXTS("SBCL_HOME"), BY_SEMAPHORES},
+    {"locks of Guile", "^libguile-[0-9.]*\\.so", TEXTS("scm_lock_mutex"), ALWAYS},
+    {"locks of ECL", "^libecl\\.so", TEXTS("mp_get_lock_wait"), BY_SEMAPHORES},
+    {"locks of Perl's threads::shared", NULL, TEXTS("boot_threads__shared"), ALWAYS},
+    {"locks of D", "^lib(gphobos|phobos2|gdruntime|druntime-ldc-shared)\\.so", TEXTS("_d_monitorenter"), ALWAYS},
+    {"locks of Erlang", NULL, TEXTS("ethr_mutex_lock"), ALWAYS},
+    {"MVars of Haskell", NULL, TEXTS("stg_takeMVarzh"), ALWAYS},
+    {"critical sections of clang's OpenMP", NULL, TEXTS("__kmpc_critical"), ALWAYS},
+    {"semaphores of C++20", NULL, TEXTS("18__atomic_semaphore", "18counting_semaphore"), OF_ATOMICS},
+    {"latches of C++20", NULL, TEXTS("NKSt5latch", "__15latch"), OF_ATOMICS},
+    {"barriers of C++20", NULL, TEXTS("17__barrier_phase_t", "14__tree_barrier", "14__barrier_base"),
+        OF_ATOMICS},
+    {"waits for atomics of C++20", NULL, TEXTS("__atomic_wait_address", "18__waiter_pool_base", "__libcpp_atomic_wait"),
+        ATOMICS},
+    {"absl::Mutex", "^libabsl_synchronization\\.so", TEXTS("AbslInternalPerThreadSemWait"), ALWAYS},
+    {"locks of folly", "^libfolly\\.so", TEXTS("5folly6detail13futexWaitImpl", "5folly15SharedMutexImpl"),
+        ALWAYS},
+    {"QMutex", "^libQt[0-9]Core[a-z]*\\.so", TEXTS("6QMutex4lockEv", "11QBasicMutex12lockInternalEv"), ALWAYS},
+    {"locks of GAsyncQueue", NULL, TEXTS("g_async_queue_lock"), ALWAYS},
+    {"more objects than there is room for", "^[" STATUS_MORE_OBJECTS "]$", TEXTS(NULL), ALWAYS},
 #undef TEXTS
 };
 enum { KINDS = sizeof kinds / sizeof *kinds };
@@ -119,20 +139,35 @@ static void look_at(struct look *look, const char *object)
         look_into(look, object);
 }
 
-char *unseen_locks(const char *const *object, size_t objects)
+/* Whether any of that sort was found. */
+static bool has_found(const struct look *look, int how)
+{
+    for (size_t i = 0; i < KINDS; i++)
+        if (look->found[i] && (int)kinds[i].how == how)
+            return true;
+    return false;
+}
+
+/* The list, which it frees, with what is named after it: a text of one's own. */
+static char *and(char *list, const char *what)
+{
+    char *longer = say_text("%s%s%s", list, *list ? ", " : "", what);
+    free(list);
+    return longer;
+}
+
+char *unseen_locks(const char *const *object, size_t objects, bool has_semaphores)
 {
     struct look *look = take(sizeof *look);
     char *text = copy("");
     begin(look);
     for (size_t i = 0; i < objects; i++)
         look_at(look, object[i]);
-    for (size_t i = 0; i < KINDS; i++) {
-        if (!look->found[i])
-            continue;
-        char *longer = say_text("%s%s%s", text, *text ? ", " : "", kinds[i].what);
-        free(text);
-        text = longer;
-    }
+    for (size_t i = 0; i < KINDS; i++)
+        if (look->found[i] && !(kinds[i].how == ATOMICS && has_found(look, OF_ATOMICS)))
+            text = and(text, kinds[i].what);
+    if (has_semaphores && !has_found(look, BY_SEMAPHORES))
+        text = and(text, "semaphores");
     end(look);
     return text;
 }

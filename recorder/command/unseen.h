@@ -6,9 +6,13 @@
 #ifndef RECORD_UNSEEN_H
 #define RECORD_UNSEEN_H
 
+#include <stdbool.h>
 #include <stddef.h>
 
-/* The kinds of locks that the objects of these names have, by commas: a text of one's own, empty where there are none. */
-char *unseen_locks(const char *const *object, size_t objects);
+/*
+ * The kinds of locks that the objects of these names have, by commas: a text of one's own, empty where there are none.
+ * HAS_SEMAPHORES: some were waited for; they are named unless they may be of a language whose locks are.
+ */
+char *unseen_locks(const char *const *object, size_t objects, bool has_semaphores);
 
 #endif

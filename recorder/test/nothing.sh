@@ -277,6 +277,62 @@ END
             echo "left out  unseen: there is no C++20"
         fi
     done
+    # What waits so is called by its name.
+    for line in "latches:std::latch both(2):both.arrive_and_wait():latch" \
+        "barriers:std::barrier<> both(2):both.arrive_and_wait():barrier" \
+        "waits for atomics:std::atomic<int> both(0):both += 1; both.notify_all(); for (int n; (n = both) < 2;) both.wait(n):atomic"; do
+        rest=${line#*:}
+        header=${line##*:}
+        rest=${rest%:*}
+        printf '#include <%s>\n#include <thread>\nstatic %s;\nint main() { std::thread other([] { %s; }); %s; other.join(); }\n' "$header" \
+            "${rest%:both*}" "both${rest##*:both}" "both${rest##*:both}" >waits.cc
+        for flags in -O0 -O2; do
+            c++ -std=c++20 $flags -pthread -o waits waits.cc 2>/dev/null && not_seen "${line%%:*} of C++20" ./waits
+        done
+    done
+    # Semaphores of the C library, by which two threads wait for each other.
+    cat >posix.c <<'END'
+#include <pthread.h>
+#include <semaphore.h>
+static sem_t one, other;
+static void both(sem_t *first, sem_t *second)
+{
+    sem_wait(first);
+    sem_wait(second);
+    sem_post(second);
+    sem_post(first);
+}
+static void *work(void *unused)
+{
+    both(&other, &one);
+    return unused;
+}
+int main(void)
+{
+    pthread_t thread;
+    sem_init(&one, 0, 1);
+    sem_init(&other, 0, 1);
+    both(&one, &other);
+    pthread_create(&thread, NULL, work, NULL);
+    return pthread_join(thread, NULL);
+}
+END
+    "${CC:-cc}" -pthread -o posix posix.c && not_seen semaphores ./posix
+    recorded_by "$record" --semaphores -- ./posix
+    said 0 '^record: 1 report, 0 circles, 1 process$'
+    tell unseen "semaphores are seen where that is asked for" $?
+    for words in "mono:locks of Mono" "guile:locks of Guile" "ecl:locks of ECL" "sbcl:locks of SBCL"; do
+        command -v "${words%%:*}" >/dev/null 2>&1 || { echo "left out  unseen: there is no ${words%%:*}" && continue; }
+        case $words in
+        mono:*) not_seen "${words#*:}" mono --version ;;
+        guile:*) not_seen "${words#*:}" guile -c '(display 1)' ;;
+        ecl:*) not_seen "${words#*:}" ecl --eval '(quit)' ;;
+        sbcl:*) not_seen "${words#*:}" sbcl --non-interactive --eval '(print 1)' ;;
+        esac
+    done
+    if perl -Mthreads::shared -e 1 2>/dev/null; then
+        not_seen "locks of Perl's threads::shared" perl -Mthreads -Mthreads::shared -e 'my $x :shared; { lock($x); }'
+    fi
     flags=
     # Stand-ins for what a machine needn't have: by a library's name, and by what stands in a file.
     compile opens -Wl,-rpath,"$work/standing"
@@ -284,6 +340,8 @@ END
     for line in "locks of Ruby:libruby-3.1.so.3.1:" "locks of folly:libfolly.so.0.58.0:" "QMutex:libQt6Core.so.6:" \
         "locks of GAsyncQueue:libsix.so:g_async_queue_lock" "absl::Mutex:libabsl_synchronization.so.20220623:" "locks of Java:libjvm.so:" \
         "locks of Go:libone.so:Go buildinf:" "absl::Mutex:libtwo.so:AbslInternalPerThreadSemWait_lts_20220623" \
+        "locks of Mono:libmonosgen-2.0.so.1:" "locks of .NET:libcoreclr.so:" "locks of Guile:libguile-3.0.so.1:" "locks of ECL:libecl.so.21.2:" \
+        "locks of D:libgphobos.so.3:" "locks of Erlang:libeight.so:ethr_mutex_lock" "MVars of Haskell:libnine.so:stg_takeMVarzh" \
         "critical sections of clang's OpenMP:libseven.so:__kmpc_critical" "QMutex:libthree.so:_ZN6QMutex4lockEv" "locks of folly:libfour.so:_ZN5folly6detail13futexWaitImplEv" \
         "locks of Rust's std:libfive.so:/rustc/f00/library/std/src/sync/poison.rs"; do
         what=${line%%:lib*}

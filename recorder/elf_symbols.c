@@ -1,0 +1,257 @@
+#include "elf_symbols.h"
+
+#include <elf.h>
+#include <fcntl.h>
+#include <string.h>
+#include <sys/mman.h>
+#include <unistd.h>
+
+enum { TEXT_BYTES = 1 << 22, NAME_MOST = 200 };
+
+static char *text;
+static size_t text_used;
+
+const char *keep_text(const char *from, size_t length)
+{
+    if (!text && !(text = table(TEXT_BYTES)))
+        return "";
+    if (length + 1 > TEXT_BYTES - text_used)
+        return "";
+    char *kept = text + text_used;
+    memcpy(kept, from, length);
+    text_used += length + 1;
+    return kept;
+}
+
+bool file_marked(const char *path, struct file_mark *mark)
+{
+    struct stat found;
+    if (stat(path, &found) != 0)
+        return false;
+    *mark = (struct file_mark){found.st_dev, found.st_ino, found.st_size, found.st_mtim};
+    return true;
+}
+
+/* So many bytes at that offset, NULL where the file hasn't them. */
+static const void *part(const struct elf *elf, uint64_t offset, uint64_t size)
+{
+    return offset <= elf->size && size <= elf->size - offset ? elf->bytes + offset : NULL;
+}
+
+/*
+ * Whether the file has the program headers that stand in memory: it is the object's, and no other one was put in its place.
+ * They are read, not mapped: another file may have holes that the disk has no room for.
+ */
+static bool is_file_of(int file, const ElfW(Phdr) *segments, uint32_t count)
+{
+    ElfW(Ehdr) header;
+    ElfW(Phdr) segment;
+    if (pread(file, &header, sizeof header, 0) != (ssize_t)sizeof header
+        || memcmp(header.e_ident, ELFMAG, SELFMAG) != 0 || header.e_phnum != count)
+        return false;
+    for (uint32_t i = 0; i < count; i++) {
+        off_t at = (off_t)(header.e_phoff + i * sizeof segment);
+        if (pread(file, &segment, sizeof segment, at) != (ssize_t)sizeof segment
+            || memcmp(&segment, &segments[i], sizeof segment) != 0)
+            return false;
+    }
+    return true;
+}
+
+void elf_opens(struct elf *elf, const char *path, const ElfW(Phdr) *segments, uint32_t count)
+{
+    struct stat found;
+    int file = open(path, O_RDONLY | O_CLOEXEC | O_NONBLOCK);
+    if (file < 0)
+        return;
+    if (fstat(file, &found) == 0 && S_ISREG(found.st_mode) && is_file_of(file, segments, count)) {
+        void *bytes = mmap(NULL, (size_t)found.st_size, PROT_READ, MAP_PRIVATE, file, 0);
+        if (bytes != MAP_FAILED) {
+            elf->bytes = bytes;
+            elf->size = (size_t)found.st_size;
+        }
+    }
+    close(file);
+}
+
+static const ElfW(Shdr) *symbol_section(const struct elf *elf, const ElfW(Shdr) *sections, uint32_t count)
+{
+    const ElfW(Shdr) *best = NULL;
+    for (uint32_t i = 0; i < count; i++)
+        if (sections[i].sh_type == SHT_SYMTAB || (sections[i].sh_type == SHT_DYNSYM && !best))
+            best = &sections[i];
+    return best && best->sh_link < count && part(elf, best->sh_offset, best->sh_size) ? best : NULL;
+}
+
+/* Finds the table of symbols in the file. False where it has none. */
+static bool found_in_file(struct elf *elf)
+{
+    const ElfW(Ehdr) *header = (const void *)elf->bytes;
+    const ElfW(Shdr) *sections = part(elf, header->e_shoff, (uint64_t)header->e_shnum * sizeof *sections);
+    const ElfW(Shdr) *table = sections ? symbol_section(elf, sections, header->e_shnum) : NULL;
+    if (!table)
+        return false;
+    const ElfW(Shdr) *strings = &sections[table->sh_link];
+    elf->strings = part(elf, strings->sh_offset, strings->sh_size);
+    elf->strings_size = strings->sh_size;
+    elf->table = part(elf, table->sh_offset, table->sh_size);
+    elf->table_count = table->sh_size / sizeof(ElfW(Sym));
+    return elf->strings && elf->table_count > 0 && elf->table_count < UINT32_MAX;
+}
+
+/* What the entry of that tag points to, NULL where there is none. The linker has put addresses there, but not in all objects. */
+static const void *pointed(const struct elf *elf, ElfW(Sxword) tag)
+{
+    for (const ElfW(Dyn) *entry = elf->dynamic; entry->d_tag != DT_NULL; entry++)
+        if (entry->d_tag == tag)
+            return (const void *)(entry->d_un.d_ptr < elf->bias ? entry->d_un.d_ptr + elf->bias : entry->d_un.d_ptr);
+    return NULL;
+}
+
+/* How many symbols the table has that this one is for: the last one of a bucket ends with a word that is odd. */
+static uint32_t count_by_hash(const uint32_t *hash)
+{
+    uint32_t buckets = hash[0], first = hash[1], words = hash[2] * (sizeof(ElfW(Addr)) / sizeof *hash), last = 0;
+    const uint32_t *bucket = hash + 4 + words, *chain = bucket + buckets;
+    for (uint32_t i = 0; i < buckets; i++)
+        if (bucket[i] > last)
+            last = bucket[i];
+    if (last < first)
+        return first;
+    while (!(chain[last - first] & 1))
+        last++;
+    return last + 1;
+}
+
+/* Finds the table that the linker goes by. False where there is none. */
+static bool found_in_memory(struct elf *elf)
+{
+    if (!elf->dynamic)
+        return false;
+    const uint32_t *hash = pointed(elf, DT_GNU_HASH), *old = pointed(elf, DT_HASH);
+    elf->table = pointed(elf, DT_SYMTAB);
+    elf->strings = pointed(elf, DT_STRTAB);
+    elf->table_count = hash ? count_by_hash(hash) : old ? old[1] : 0;
+    for (const ElfW(Dyn) *entry = elf->dynamic; entry->d_tag != DT_NULL; entry++)
+        if (entry->d_tag == DT_STRSZ)
+            elf->strings_size = entry->d_un.d_val;
+    return elf->table && elf->strings && elf->table_count > 0;
+}
+
+static bool is_kept(const ElfW(Sym) *symbol, int kind)
+{
+    return ELF64_ST_TYPE(symbol->st_info) == (kind == FUNCTIONS ? STT_FUNC : STT_OBJECT)
+        && symbol->st_shndx != SHN_UNDEF && symbol->st_size > 0;
+}
+
+/* Sorts by eleven bits from the shift on; what is equal in them keeps its order. */
+static void sort_once(const struct symbol *from, struct symbol *to, uint32_t count, uint32_t shift)
+{
+    enum { VALUES = 1 << 11 };
+    static uint32_t starts[VALUES + 1];
+    memset(starts, 0, sizeof starts);
+    for (uint32_t i = 0; i < count; i++)
+        starts[(from[i].from >> shift) % VALUES + 1]++;
+    for (uint32_t value = 1; value < VALUES; value++)
+        starts[value] += starts[value - 1];
+    for (uint32_t i = 0; i < count; i++)
+        to[starts[(from[i].from >> shift) % VALUES]++] = from[i];
+}
+
+/* The symbols by `from`, sorted in either of two tables of that size. */
+static struct symbol *sorted(struct symbol *symbols, struct symbol *other, uint32_t count)
+{
+    uint64_t most = 0;
+    for (uint32_t i = 0; i < count; i++)
+        if (symbols[i].from > most)
+            most = symbols[i].from;
+    for (uint32_t shift = 0; shift < 64 && most >> shift != 0; shift += 11) {
+        sort_once(symbols, other, count, shift);
+        struct symbol *kept = symbols;
+        symbols = other;
+        other = kept;
+    }
+    return symbols;
+}
+
+static void read_kind(struct elf *elf, int kind)
+{
+    uint32_t count = 0, at = 0;
+    for (uint32_t i = 0; i < elf->table_count; i++)
+        count += is_kept(&elf->table[i], kind);
+    struct symbol *symbols = count ? table(count * sizeof *symbols) : NULL;
+    struct symbol *other = symbols ? table(count * sizeof *other) : NULL;
+    if (!other)
+        return;
+    for (uint32_t i = 0; i < elf->table_count; i++) {
+        const ElfW(Sym) *symbol = &elf->table[i];
+        if (is_kept(symbol, kind))
+            symbols[at++] = (struct symbol){symbol->st_value, symbol->st_value + symbol->st_size, 0, i, symbol->st_name};
+    }
+    struct symbol *result = sorted(symbols, other, count);
+    munmap(result == symbols ? other : symbols, count * sizeof *other);
+    uint64_t furthest = 0;
+    for (uint32_t i = 0; i < count; i++) {
+        if (result[i].to > furthest)
+            furthest = result[i].to;
+        result[i].furthest = furthest;
+    }
+    elf->kind[kind] = (struct symbols){result, count};
+}
+
+/* Reads the symbols once: there may be a hundred thousand, and a name is asked for at each place. */
+static void read_symbols(struct elf *elf)
+{
+    if (elf->is_read)
+        return;
+    elf->is_read = true;
+    if (!(elf->bytes && found_in_file(elf)) && !found_in_memory(elf)) {
+        elf->table_count = 0;
+        return;
+    }
+    read_kind(elf, VARIABLES);
+    read_kind(elf, FUNCTIONS);
+}
+
+const struct symbol *elf_symbol(struct elf *elf, uint64_t address, int kind)
+{
+    read_symbols(elf);
+    const struct symbols *symbols = &elf->kind[kind];
+    uint32_t low = 0, high = symbols->count;
+    while (low < high) {
+        uint32_t middle = low + (high - low) / 2;
+        if (symbols->symbol[middle].from <= address)
+            low = middle + 1;
+        else
+            high = middle;
+    }
+    const struct symbol *best = NULL;
+    while (low-- > 0 && symbols->symbol[low].furthest > address) {
+        const struct symbol *symbol = &symbols->symbol[low];
+        if (address < symbol->to && (!best || symbol->number < best->number))
+            best = symbol;
+    }
+    return best;
+}
+
+const char *elf_name(const struct elf *elf, uint32_t name)
+{
+    if (name >= elf->strings_size)
+        return "";
+    uint64_t most = elf->strings_size - name;
+    return keep_text(elf->strings + name, strnlen(elf->strings + name, most < NAME_MOST ? most : NAME_MOST));
+}
+
+const char *elf_file_of(const struct elf *elf, const struct symbol *symbol)
+{
+    const struct symbols *variables = &elf->kind[VARIABLES];
+    bool shared = false;
+    if (ELF64_ST_BIND(elf->table[symbol->number].st_info) != STB_LOCAL)
+        return "";
+    for (uint32_t i = 0; i < variables->count && !shared; i++)
+        shared = variables->symbol[i].name == symbol->name && variables->symbol[i].from != symbol->from;
+    for (uint32_t i = symbol->number; shared && i-- > 0;)
+        if (ELF64_ST_TYPE(elf->table[i].st_info) == STT_FILE)
+            return elf_name(elf, elf->table[i].st_name);
+    return "";
+}
