@@ -7,7 +7,7 @@
 #define RECORDER_FORMAT_H
 
 /* The first line of a stream is `asked 0 version N missed`, then the names of the counts, each with its count. */
-#define FORMAT_VERSION 4
+#define FORMAT_VERSION 5
 #define WORD_ASKED "asked"
 #define WORD_VERSION "version"
 #define WORD_MISSED "missed"
@@ -39,7 +39,10 @@ enum { ASKED_AT = 6, ASKED_NOT = '0', ASKED_NOW = '1', ASKED_ALWAYS = '3' };
 #define WORD_THREAD "thread"
 /* What stands where there is no name. */
 #define NO_NAME "-"
-/* In a word of the program's own a byte that would end it is this and two hexadecimal digits, as is this one itself. */
+/*
+ * In a word that isn't the recorder's own (words.c) a byte that would end it is this and two hexadecimal digits, as is this
+ * one itself.
+ */
 #define ESCAPE '%'
 
 /* Calls of the trace. */
@@ -81,8 +84,8 @@ enum { ASKED_AT = 6, ASKED_NOT = '0', ASKED_NOW = '1', ASKED_ALWAYS = '3' };
 #define WORD_JOINED "joined"
 
 /*
- * The counts of a stream: calls that it lacks; two of which it has a line for each place alone; and locks in blocks of
- * memory that aren't known.
+ * The counts of a stream: calls that it lacks; two of which it has a line for each place alone; locks in blocks of memory
+ * that aren't known; and lines that were left out, since a name made them too long.
  */
 #define EACH_MISSED(EACH)                                                                                              \
     EACH(MISSED_SEATS, "seats")                                                                                        \
@@ -92,7 +95,8 @@ enum { ASKED_AT = 6, ASKED_NOT = '0', ASKED_NOW = '1', ASKED_ALWAYS = '3' };
     EACH(MISSED_LOG, "log")                                                                                            \
     EACH(MISSED_RELEASES, "releases")                                                                                  \
     EACH(MISSED_AGAIN, "again")                                                                                        \
-    EACH(MISSED_BLOCKS, "blocks")
+    EACH(MISSED_BLOCKS, "blocks")                                                                                      \
+    EACH(MISSED_LONG, "long")
 
 /*
  * The counts of a process, in the status. What failed outside the streams: lines for which the file couldn't be opened,

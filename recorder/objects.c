@@ -209,10 +209,24 @@ static void read_map(const char *line)
     add_object(from, hexadecimal(&at), path);
 }
 
+/* A newline in a path is written as \012: as these four bytes are, where a name has them. */
+static void undo_newlines(char *path)
+{
+    if (!path || !strstr(path, "\\012") || access(path, F_OK) == 0)
+        return;
+    char *to = path;
+    for (const char *from = path; *from; to++) {
+        bool is_newline = strncmp(from, "\\012", 4) == 0;
+        *to = is_newline ? '\n' : *from;
+        from += is_newline ? 4 : 1;
+    }
+    *to = '\0';
+}
+
 /* Hands each line of the maps on. False where they can't be read to their end. */
 static bool read_maps(void (*each)(const char *line))
 {
-    static char buffer[8192];
+    static char buffer[1 << 14];
     size_t kept = 0;
     int file = open("/proc/self/maps", O_RDONLY | O_CLOEXEC);
     ssize_t got = -1;
@@ -227,6 +241,7 @@ static bool read_maps(void (*each)(const char *line))
         char *line = buffer, *feed;
         while ((feed = strchr(line, '\n')) != NULL) {
             *feed = '\0';
+            undo_newlines(strchr(line, '/'));
             each(line);
             line = feed + 1;
         }

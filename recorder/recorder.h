@@ -22,6 +22,7 @@
  *   seats.c     seats, and the numbers of types, locks and places in a stream
  *   pairs.c     the pairs of types that the condensed stream tells of
  *   write.c     the lines, and why they are a legal history
+ *   words.c     words of others, which may have any bytes
  *   stream.c    the files that the lines stand in
  *   status.c    which programs were started, what failed and which objects were loaded, where it outlives the process
  *   judge.h     who judges the lines, where these files are part of libwitness
@@ -627,12 +628,18 @@ void write_type(int stream, struct type *type);
 void write_crowded(struct type *type); /* under the mutex, between lines */
 void write_init(int stream, struct thread *thread, struct lock *lock);
 
+/* words.c */
+/*
+ * Writes the word with %XX for each byte that would end it, and for %. Returns how long it is so; what has no room isn't
+ * written. No byte follows it.
+ */
+size_t word_escaped(const char *word, char *to, size_t room);
+
 /* stream.c */
 void put_text(int stream, const char *text);
 void put_number(int stream, uint64_t number);      /* behind a space, as the next two */
 void put_hexadecimal(int stream, uint64_t number);
-void put_name(int stream, const char *name);
-void put_word(int stream, const char *word); /* as put_name, with %XX for a byte that would end the field, and for % */
+void put_word(int stream, const char *word); /* as words.c has it; NO_NAME for an empty one */
 void stream_append(int stream, bool is_entry);
 bool stream_opens(int stream);
 bool stream_is_asked(int stream);

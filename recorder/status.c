@@ -210,14 +210,14 @@ void status_object(const char *path)
     if (!status || !is_new(path))
         return;
     uint64_t *used = (void *)(status + OBJECTS_AT);
-    size_t length = strlen(path), head = sizeof word - 1, whole = head + length + 1;
+    size_t length = word_escaped(path, NULL, 0), head = sizeof word - 1, whole = head + length + 1;
     size_t at = OBJECTS_AT + sizeof *used + __atomic_fetch_add(used, whole, __ATOMIC_SEQ_CST);
     if (at + whole > FULL_AT) {
         memcpy(status + FULL_OBJECTS_AT, full_objects, sizeof full_objects - 1);
         return;
     }
     memcpy(status + at, word, head);
-    memcpy(status + at + head, path, length);
+    word_escaped(path, status + at + head, length);
     status[at + whole - 1] = '\n';
 }
 

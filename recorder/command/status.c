@@ -8,6 +8,7 @@
 
 #include "../format.h"
 #include "memory.h"
+#include "names.h"
 
 enum { BYTES_LEAST = 65536 };
 
@@ -83,7 +84,9 @@ static long read_line(struct status *status, char *line)
     if (strcmp(line, STATUS_FULL) == 0) {
         status->is_full = true;
     } else if (strncmp(line, object, sizeof object - 1) == 0) {
-        ADD(status->object, status->objects, status->object_room) = copy(line + sizeof object - 1);
+        char *path = copy(line + sizeof object - 1);
+        undo_escapes(path);
+        ADD(status->object, status->objects, status->object_room) = path;
     } else if (is_process(line)) {
         read_parts(status, strtol(line + 1, NULL, 10), line + 2 + STATUS_DIGITS);
         return strtol(line + 1, NULL, 10);

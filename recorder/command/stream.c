@@ -48,19 +48,18 @@ static void find_lines(struct stream *stream, char *bytes, bool goes_on)
     stream->length = whole_lines(bytes, length);
 }
 
-/* The rest of the line with that word. */
-static char *rest_of(const struct stream *stream, const char *word)
+/* The name that the second line has. */
+static char *program_in(const struct stream *stream)
 {
     struct line line;
     const char *at = stream->bytes;
-    for (unsigned lines = 0; lines < 2 && line_next(&line, &at, stream->bytes + stream->length); lines++)
-        if (field_is(&line, 0, word)) {
-            struct field rest = field_rest(&line, 1);
-            char *text = copy_bytes(rest.at, rest.length);
-            clean_name(text);
-            return text;
-        }
-    return copy("");
+    char *name = NULL;
+    for (unsigned lines = 0; lines < 2 && !name && line_next(&line, &at, stream->bytes + stream->length); lines++)
+        if (field_is(&line, 0, WORD_PROGRAM))
+            name = field_word(&line, 1);
+    if (name)
+        clean_name(name);
+    return name ? name : copy("");
 }
 
 static long process_of(const char *path)
@@ -128,7 +127,7 @@ bool stream_open(struct stream *stream, const char *path, bool goes_on)
         return false;
     find_lines(stream, bytes, goes_on);
     stream->path = copy(path);
-    stream->program = rest_of(stream, WORD_PROGRAM);
+    stream->program = program_in(stream);
     stream->process = process_of(path);
     stream->answered = stream->length > ASKED_AT && stream->bytes[ASKED_AT] == ASKED_NOT;
     return true;
