@@ -657,7 +657,7 @@ void streams_end(void);
 void status_made(void);
 void status_lacks_memory(void); /* the recorder stays off in this process */
 void status_forked(void);
-void status_starts(const char *program);
+void status_starts(const char *program); /* its name, without folders */
 void status_starts_not(void);
 void status_started(pid_t process, const char *program);
 void status_object(const char *path);

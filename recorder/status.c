@@ -159,7 +159,7 @@ void status_starts(const char *program)
     char *slot = slot_of(getpid());
     if (!slot)
         return;
-    write_name(slot + STARTED_AT, " " STATUS_STARTED " ", base_of(program));
+    write_name(slot + STARTED_AT, " " STATUS_STARTED " ", program);
     memcpy(slot + LOADED_AT, not_loaded, sizeof not_loaded - 1);
 }
 
