@@ -568,6 +568,7 @@ extern bool semaphores_are_locks;
 
 /* threads.c */
 extern _Atomic uint32_t threads_made_and_joined;
+extern _Atomic uint32_t threads_in_making; /* counted already, and maybe not there yet */
 
 void threads_forked(void);
 
@@ -576,7 +577,14 @@ bool singles_made(void);
 void singles_forked(void);
 void order_noted(struct request *request); /* before the real call, of a thread that holds something */
 bool order_is_under(const struct held *held, const struct request *request);
-void order_of_joined(pthread_t joined);    /* this thread has joined it */
+/* What is known of a thread before it is joined: its handle, and by what it is told from a later one of that handle. */
+struct joining {
+    pthread_t thread;
+    uint32_t made;  /* it was made when fewer had been made and joined; 0 where that can't be said */
+    uint32_t begun; /* lives that had begun */
+};
+struct joining order_joins(pthread_t thread);
+void order_of_joined(struct joining joining); /* this thread has joined it */
 
 /* errors.c */
 void errors_begin(void);
