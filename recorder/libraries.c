@@ -34,5 +34,6 @@ EXPORT void *dlopen(const char *name, int how)
 {
     start();
     library_opens(name, HERE);
+    others_come();
     return real.dlopen(name, how);
 }

@@ -3,7 +3,7 @@
  * `record` makes a trace (command/). This file has what its parts share:
  *
  *   calls.c     the interposed calls of pthread, C11 and the C library; ways.h, what they share
- *   others.c    those of GLib and OpenMP
+ *   others.c    those of GLib and OpenMP, where the program has them; rebind.c puts them there
  *   singles.c   the orders of single locks
  *   errors.c    errors in the use of locks that aren't orders
  *   annotations.c  what a program tells of its own locks by witness.h
@@ -544,6 +544,10 @@ void objects_closed(void (*gone)(uintptr_t from, uintptr_t to));
 
 /* libraries.c */
 void libraries_end(void);
+
+/* rebind.c */
+void others_come(void);    /* an object may come that needs a library of others.h */
+void others_rebound(void); /* the functions of those that have come are recorded from here on */
 
 /* stacks.c */
 extern uint32_t frames_shown; /* how many frames a stack has at most; with 1 there are no stacks */

@@ -401,6 +401,7 @@ bool recorder_wakes(void)
         if (atomic_load(&recording)) {
             look_round();
             atomic_store(&asleep, false);
+            others_rebound();
         }
         self.state = UNREADY;
     }
@@ -411,10 +412,12 @@ bool recorder_wakes(void)
 __attribute__((constructor)) static void loaded(void)
 {
     start();
-    if (atomic_load(&recording))
+    if (atomic_load(&recording)) {
         look_round();
-    else
+        others_rebound();
+    } else {
         recorder_wakes();
+    }
     fork_is_watched();
 }
 
