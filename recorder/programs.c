@@ -12,7 +12,6 @@
 #include <limits.h>
 #include <stdarg.h>
 #include <string.h>
-#include <sys/syscall.h>
 #include <unistd.h>
 
 extern char **environ;
@@ -20,18 +19,7 @@ extern char **environ;
 /* More of a program's name isn't told. */
 enum { NAME_MOST = 64 };
 
-/*
- * Whether the word that the address is in can be read. A program may hand anything to the kernel, which answers EFAULT. It
- * does so here, too: it reads a set of signals before it refuses what is to be done with it.
- */
-static bool is_readable(const void *address)
-{
-    uintptr_t word = (uintptr_t)address & ~(uintptr_t)7;
-    syscall(SYS_rt_sigprocmask, -1, word, NULL, sizeof(uint64_t));
-    return word && errno != EFAULT;
-}
-
-/* The path without its folders, as far as it can be read. */
+/* The path without its folders, as far as it can be read: a program may hand anything to the kernel, which answers EFAULT. */
 static void copy_base(char to[NAME_MOST], const char *path)
 {
     size_t length = 0;

@@ -24,6 +24,7 @@
  *   write.c     the lines, and why they are a legal history
  *   words.c     words of others, which may have any bytes
  *   stream.c    the files that the lines stand in
+ *   reach.c     memory that may not be there
  *   status.c    which programs were started, what failed and which objects were loaded, where it outlives the process
  *   judge.h     who judges the lines, where these files are part of libwitness
  *
@@ -664,6 +665,11 @@ void count_missed_outside(enum missed what);
 bool streams_made(void);
 void streams_forked(void);
 void streams_end(void);
+
+/* reach.c */
+/* Whether the word that the address is in can be read; and whether so many bytes can. errno stays. */
+bool is_readable(const void *address);
+bool is_all_readable(const void *from, size_t bytes);
 
 /* status.c */
 void status_made(void);
