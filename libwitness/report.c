@@ -177,13 +177,27 @@ static void call_program(const struct witness_report *report)
         function(report, data);
 }
 
-static void tell_report(struct report *report, struct caller caller)
+struct telling {
+    struct report *report;
+    struct caller caller;
+};
+
+static void tell_text(void *argument)
 {
+    const struct telling *it = argument;
+    struct report *report = it->report;
     size_t length = report->length;
     find_places(report);
-    length += callers_put(report->text + length, CALLERS_ROOM, caller);
+    length += callers_put(report->text + length, CALLERS_ROOM, it->caller);
     tell(report->text, length);
     report->text[report->length] = '\0';
+}
+
+/* The program's function has the program's stack, and its signals. */
+static void tell_report(struct report *report, struct caller caller)
+{
+    struct telling it = {report, caller};
+    aside(tell_text, &it);
     call_program(&report->shown);
     witness_reported(&report->shown);
     if (report->shown.kind == WITNESS_DEADLOCK)

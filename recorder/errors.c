@@ -62,17 +62,30 @@ static COLD void tell(enum lock_error error, struct lock *lock, uint32_t place)
         write_error(&self, error, lock, place);
 }
 
+struct met {
+    enum lock_error error;
+    const void *address;
+    struct caller caller;
+};
+
+static void tell_met(void *argument)
+{
+    const struct met *it = argument;
+    uint32_t place = place_of(it->caller);
+    if (!recorder_enters())
+        return;
+    struct lock *lock = lock_at(it->address);
+    if (lock)
+        tell(it->error, lock, place);
+    recorder_leaves();
+}
+
 void error_at(enum lock_error error, const void *address, struct caller caller)
 {
+    struct met it = {error, address, caller};
     if (!goes_far_inside(caller.stack))
         return;
-    uint32_t place = place_of(caller);
-    if (recorder_enters()) {
-        struct lock *lock = lock_at(address);
-        if (lock)
-            tell(error, lock, place);
-        recorder_leaves();
-    }
+    aside(tell_met, &it);
     goes_outside(&self);
 }
 
@@ -99,6 +112,17 @@ void error_of_wait(const pthread_mutex_t *mutex, struct caller caller)
         error_at(ERROR_WAITED, mutex, caller);
 }
 
+static void tell_held(void *unused)
+{
+    (void)unused;
+    if (!recorder_enters())
+        return;
+    for (uint32_t i = 0; i < self.count; i++)
+        if (stands_for_lock(&self.held[i]) && !is_robust(self.held[i].lock))
+            tell(ERROR_ENDED, self.held[i].lock, self.held[i].place);
+    recorder_leaves();
+}
+
 /*
  * The thread ends. It may have held the lock up to here for what its other values need, so only the last round of
  * destructors counts.
@@ -111,12 +135,7 @@ static void thread_ends(void *round)
     }
     if (self.count == 0 || !goes_far_inside(HERE))
         return;
-    if (recorder_enters()) {
-        for (uint32_t i = 0; i < self.count; i++)
-            if (stands_for_lock(&self.held[i]) && !is_robust(self.held[i].lock))
-                tell(ERROR_ENDED, self.held[i].lock, self.held[i].place);
-        recorder_leaves();
-    }
+    aside(tell_held, NULL);
     goes_outside(&self);
 }
 

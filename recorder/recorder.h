@@ -16,7 +16,7 @@
  *   waiters.c   threads that wait for a condition while they hold locks
  *   locks.c     the locks at their addresses, and their types
  *   blocks.c    the blocks of memory that they are in, where that is asked for; malloc/, its interposed calls
- *   aside.c     a stack of the recorder's own, for handlers that have a small one
+ *   aside.c     stacks of the recorder's own, since the program's may be small
  *   places.c    the callers of a call; objects.c finds their object and name; sites.c, places by name
  *   stacks.c    the callers of what is written
  *   seats.c     seats, and the numbers of types, locks and places in a stream
@@ -214,7 +214,8 @@ struct thread {
     uint32_t asked[STREAMS];     /* the number of the lock whose request is pending there, 0 for none */
     bool asks_for_a_time;        /* the request that was written last ends by itself */
     struct held few[HELD_FEW];
-    bool is_aside; /* on a stack of the recorder's own */
+    uintptr_t own_stack; /* where the stack of the recorder's own begins that it is on; 0 for none (aside.c) */
+    bool keeps_signals;  /* no handler runs on that one */
     uint32_t serial; /* no other thread of this process has it; above SERIAL_BITS, how many threads it has made, 7 at most */
     uint32_t made; /* the place where the thread was made; 0 of the first one, or where that isn't known */
     uint32_t maker;   /* the thread that made it, as the kernel counts; 0 of the first one, or where that isn't known */
@@ -346,15 +347,12 @@ extern _Atomic bool has_handlers; /* the program was given a handler of signals 
 extern _Atomic bool has_small_stacks; /* and one that has a stack of its own */
 
 /*
- * aside.c: calls the function with the argument, on a stack of the recorder's own where this thread is on a small one.
- * Where no handler has one, it is called at once.
+ * aside.c: calls the function with the argument, on a stack of the recorder's own: so of the program's it takes some hundred
+ * bytes, whatever the function does.
  */
 void aside(void (*function)(void *), void *argument);
-
-static inline bool may_be_on_small_stack(void)
-{
-    return UNLIKELY(atomic_load_explicit(&has_small_stacks, memory_order_relaxed));
-}
+bool is_aside(uintptr_t stack); /* whether this thread's own stack has the address */
+void aside_forked(void);
 
 /* Nothing is recorded, and may never be: calls are passed on at once. */
 extern _Atomic bool asleep;

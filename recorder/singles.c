@@ -133,21 +133,32 @@ static bool is_joined(const struct life *life, const struct joining *joining)
         && (life->number < joining->begun || life->made_at < joining->made);
 }
 
+struct joined {
+    struct joining joining;
+    uint32_t at;
+};
+
+static void end_lives(void *argument)
+{
+    const struct joined *it = argument;
+    if (!recorder_enters())
+        return;
+    for (uint32_t i = 0; i < LIVES; i++) {
+        if (is_joined(&lives[i], &it->joining)) {
+            write_joined(lives[i].thread, it->at);
+            lives[i].thread = 0;
+            atomic_fetch_sub(&lives_kept, 1);
+        }
+    }
+    recorder_leaves();
+}
+
 void order_of_joined(struct joining joining)
 {
-    uint32_t at = atomic_fetch_add(&threads_made_and_joined, 1);
+    struct joined it = {joining, atomic_fetch_add(&threads_made_and_joined, 1)};
     if (LIKELY(atomic_load(&lives_kept) == 0) || !goes_far_inside(HERE))
         return;
-    if (recorder_enters()) {
-        for (uint32_t i = 0; i < LIVES; i++) {
-            if (is_joined(&lives[i], &joining)) {
-                write_joined(lives[i].thread, at);
-                lives[i].thread = 0;
-                atomic_fetch_sub(&lives_kept, 1);
-            }
-        }
-        recorder_leaves();
-    }
+    aside(end_lives, &it);
     goes_outside(&self);
 }
 
@@ -194,11 +205,22 @@ static uint64_t way_of(const struct request *request)
     return under * UNDER_IT ^ (request->ends_wait ? AS_A_WAIT_ENDS : request->timed ? FOR_A_TIME : 0);
 }
 
-void order_noted(struct request *request)
+static uint64_t locks_of(const struct request *request)
 {
-    uint64_t locks = locks_with(locks_held(request->thread), request->lock, request->mode) ^ way_of(request);
+    return locks_with(locks_held(request->thread), request->lock, request->mode) ^ way_of(request);
+}
+
+static void note_aside(void *argument)
+{
+    struct request *request = argument;
     if (request->node == NODE_UNKNOWN)
         note_end();
-    else if (!order_is_known(locks, request->thread->serial))
-        note(request, locks);
+    else
+        note(request, locks_of(request));
+}
+
+void order_noted(struct request *request)
+{
+    if (request->node == NODE_UNKNOWN ? !atomic_load(&is_over) : !order_is_known(locks_of(request), request->thread->serial))
+        aside(note_aside, request);
 }

@@ -93,7 +93,8 @@ static const struct {
 extern char *program_invocation_short_name;
 static pthread_mutex_t mutex = PTHREAD_MUTEX_INITIALIZER;
 static _Atomic bool recording;
-/* Of the thread that is inside: what it had outside. */
+/* Of the thread that is inside: what it had outside. Where it is aside, it isn't cancelled in any case. */
+enum { CANCELLATION_KEPT = -1 };
 static int errno_outside, cancellation_outside;
 static sigset_t signals_outside;
 static bool signals_wait;
@@ -185,6 +186,17 @@ static void say_started(void)
     }
 }
 
+/* Those of faults come as they do without the recorder: the program may see to memory of its own by them. */
+static sigset_t kept_out;
+
+static void choose_signals(void)
+{
+    static const int faults[] = {SIGSEGV, SIGBUS, SIGFPE, SIGILL, SIGTRAP};
+    sigfillset(&kept_out);
+    for (size_t i = 0; i < sizeof faults / sizeof *faults; i++)
+        sigdelset(&kept_out, faults[i]);
+}
+
 /* Makes all that recording needs, where the environment or the program wants it, and begins. Once in a process. */
 static void awake(void)
 {
@@ -193,6 +205,7 @@ static void awake(void)
         return;
     /* The words that it was started by may be overwritten later. */
     snprintf(program_name, sizeof program_name, "%s", program_invocation_short_name);
+    choose_signals();
     status_made();
     if (!tables_made()) {
         semaphores_are_locks = false;
@@ -223,14 +236,21 @@ void start(void)
 
 /*
  * Whether the call that the thread is inside of was left: by a jump out of a handler of signals, or a cancellation. Not
- * where the thread is on another stack than that call was.
+ * where the caller is a handler on another stack than that call was.
  */
 static bool has_left(const struct thread *thread, uintptr_t stack)
 {
     stack_t other;
-    if (thread->state == STARTING || thread->is_aside || (sigaltstack(NULL, &other) == 0 && (other.ss_flags & SS_ONSTACK)))
+    if (thread->state == STARTING || is_aside(stack))
+        return false;
+    if (sigaltstack(NULL, &other) == 0 && stack - (uintptr_t)other.ss_sp <= other.ss_size)
         return false;
     return stack >= thread->state || !call_goes_on(thread->state);
+}
+
+static void leave(void *thread)
+{
+    write_left(thread);
 }
 
 /*
@@ -242,7 +262,7 @@ COLD bool thread_opens(struct thread *thread, uintptr_t stack)
     if (thread->state > OPEN) {
         if (!has_left(thread, stack))
             return false;
-        write_left(thread);
+        aside(leave, thread);
     }
     start();
     if (!atomic_load(&recording))
@@ -288,14 +308,14 @@ bool recorder_enters(void)
         stops_in_child();
     if (!atomic_load(&recording))
         return false;
-    int cancellation;
-    sigset_t all, signals;
-    bool wait = atomic_load_explicit(&has_handlers, memory_order_relaxed);
-    if (wait) {
-        sigfillset(&all);
-        pthread_sigmask(SIG_BLOCK, &all, &signals);
-    }
-    pthread_setcancelstate(PTHREAD_CANCEL_DISABLE, &cancellation);
+    int cancellation = CANCELLATION_KEPT;
+    sigset_t signals;
+    bool is_apart = is_aside((uintptr_t)__builtin_frame_address(0));
+    bool wait = atomic_load_explicit(&has_handlers, memory_order_relaxed) && !(is_apart && self.keeps_signals);
+    if (wait)
+        pthread_sigmask(SIG_BLOCK, &kept_out, &signals);
+    if (!is_apart)
+        pthread_setcancelstate(PTHREAD_CANCEL_DISABLE, &cancellation);
     real.mutex_lock(&mutex);
     errno_outside = before;
     cancellation_outside = cancellation;
@@ -313,7 +333,8 @@ void recorder_leaves(void)
     if (wait)
         signals = signals_outside;
     real.mutex_unlock(&mutex);
-    pthread_setcancelstate(cancellation, NULL);
+    if (cancellation != CANCELLATION_KEPT)
+        pthread_setcancelstate(cancellation, NULL);
     if (wait)
         pthread_sigmask(SIG_SETMASK, &signals, NULL);
     judge_looks();
@@ -335,15 +356,9 @@ static void fork_ends_in_parent(void)
         recorder_leaves();
 }
 
-/* The child begins a trace of its own, in which its one thread holds what it held, and nothing is known. */
-static void fork_ends_in_child(void)
+static void begin_child(void *unused)
 {
-    if (!forks) {
-        atomic_store(&recording, false);
-        return;
-    }
-    *alive = 1;
-    life++;
+    (void)unused;
     seats_forked();
     pairs_forked();
     status_forked();
@@ -354,6 +369,19 @@ static void fork_ends_in_child(void)
     singles_forked();
     threads_forked();
     judge_forked();
+}
+
+/* The child begins a trace of its own, in which its one thread holds what it held, and nothing is known. */
+static void fork_ends_in_child(void)
+{
+    if (!forks) {
+        atomic_store(&recording, false);
+        return;
+    }
+    *alive = 1;
+    life++;
+    aside_forked();
+    aside(begin_child, NULL);
     recorder_leaves();
 }
 
