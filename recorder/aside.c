@@ -60,11 +60,13 @@ static bool is_made(struct own_stack *stack)
     char *from = mmap(NULL, PAGE_BYTES + STACK_BYTES, PROT_NONE, MAP_PRIVATE | MAP_ANONYMOUS | MAP_NORESERVE, -1, 0);
     if (from == MAP_FAILED)
         return false;
-    if (mprotect(from + PAGE_BYTES, STACK_BYTES, PROT_READ | PROT_WRITE) == 0)
-        stack->from = from + PAGE_BYTES;
-    else
+    if (mprotect(from + PAGE_BYTES, STACK_BYTES, PROT_READ | PROT_WRITE) != 0) {
         munmap(from, PAGE_BYTES + STACK_BYTES);
-    return stack->from != NULL;
+        return false;
+    }
+    own_memory(from, PAGE_BYTES + STACK_BYTES);
+    stack->from = from + PAGE_BYTES;
+    return true;
 }
 
 /* NULL where there is none left, or no memory for it. */

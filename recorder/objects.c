@@ -95,6 +95,8 @@ static struct image image_of(const char *path)
         void *bytes = mmap(NULL, (size_t)status.st_size, PROT_READ, MAP_PRIVATE, file, 0);
         if (bytes != MAP_FAILED)
             image = (struct image){bytes, (size_t)status.st_size, status.st_dev, status.st_ino, status.st_mtim};
+        if (image.bytes)
+            own_memory(image.bytes, image.size);
     }
     close(file);
     return image;
@@ -148,7 +150,7 @@ static void add_object(uintptr_t from, uint64_t offset, const char *path)
     }
     struct object object = {.from = least + bias, .to = most + bias, .bias = bias, .image = image};
     if (!found || opens_again(&object) || objects_met == OBJECTS) {
-        munmap((void *)image.bytes, image.size);
+        table_goes((void *)image.bytes, image.size);
         return;
     }
     object.path = keep_text(path, strlen(path));
@@ -429,7 +431,7 @@ static void read_kind(struct object *object, int kind)
             symbols[at++] = (struct symbol){symbol->st_value, symbol->st_value + symbol->st_size, 0, i, symbol->st_name};
     }
     struct symbol *result = sorted(symbols, other, count);
-    munmap(result == symbols ? other : symbols, count * sizeof *other);
+    table_goes(result == symbols ? other : symbols, count * sizeof *other);
     uint64_t furthest = 0;
     for (uint32_t i = 0; i < count; i++) {
         if (result[i].to > furthest)

@@ -24,6 +24,7 @@
  *   write.c     the lines, and why they are a legal history
  *   words.c     words of others, which may have any bytes
  *   stream.c    the files that the lines stand in
+ *   pinned.c    mlockall, and which memory is the recorder's
  *   reach.c     memory that may not be there
  *   status.c    which programs were started, what failed and which objects were loaded, where it outlives the process
  *   judge.h     who judges the lines, where these files are part of libwitness
@@ -317,6 +318,7 @@ struct real {
     handler *(*sigset)(int, handler *);
     void (*free)(void *);
     int (*register_atfork)(void (*)(void), void (*)(void), void (*)(void), void *);
+    int (*mlockall)(int);
 };
 /* The stack pointer of the function's caller. */
 #define HERE ((uintptr_t)__builtin_frame_address(0) + 16)
@@ -370,6 +372,7 @@ bool goes_far_inside(uintptr_t stack);
 bool recorder_enters(void);
 void recorder_leaves(void);
 void *table(size_t bytes);
+void table_goes(void *memory, size_t bytes);
 
 /* How a lock is asked for: by a call that may block, by one that doesn't, or by one that blocks for a time. */
 enum asking { ASKS, TRIES, ASKS_FOR_A_TIME };
@@ -663,6 +666,11 @@ void count_missed_outside(enum missed what);
 bool streams_made(void);
 void streams_forked(void);
 void streams_end(void);
+
+/* pinned.c */
+void own_memory(const void *from, size_t bytes); /* that is the recorder's, and not the program's */
+void own_memory_goes(const void *from);
+void own_object(void);
 
 /* reach.c */
 /* Whether the word that the address is in can be read; and whether so many bytes can. errno stays. */

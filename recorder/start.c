@@ -88,6 +88,7 @@ static const struct {
     {offsetof(struct real, signal), "signal", NULL},
     {offsetof(struct real, sysv_signal), "__sysv_signal", NULL},
     {offsetof(struct real, sigset), "sigset", NULL},
+    {offsetof(struct real, mlockall), "mlockall", NULL},
 };
 
 extern char *program_invocation_short_name;
@@ -121,7 +122,16 @@ static void find_real_functions(void)
 void *table(size_t bytes)
 {
     void *memory = mmap(NULL, bytes, PROT_READ | PROT_WRITE, MAP_PRIVATE | MAP_ANONYMOUS | MAP_NORESERVE, -1, 0);
-    return memory == MAP_FAILED ? NULL : memory;
+    if (memory == MAP_FAILED)
+        return NULL;
+    own_memory(memory, bytes);
+    return memory;
+}
+
+void table_goes(void *memory, size_t bytes)
+{
+    own_memory_goes(memory);
+    munmap(memory, bytes);
 }
 
 static bool settings_read(void)
@@ -161,7 +171,9 @@ enum { ROOM_BYTES = 128 << 20 };
 static bool has_room(void)
 {
     void *room = table(ROOM_BYTES);
-    return room && munmap(room, ROOM_BYTES) == 0;
+    if (room)
+        table_goes(room, ROOM_BYTES);
+    return room != NULL;
 }
 
 /* False where there is no memory. Then the recorder stays off. */
@@ -206,6 +218,7 @@ static void awake(void)
     /* The words that it was started by may be overwritten later. */
     snprintf(program_name, sizeof program_name, "%s", program_invocation_short_name);
     choose_signals();
+    own_object();
     status_made();
     if (!tables_made()) {
         semaphores_are_locks = false;

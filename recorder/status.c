@@ -135,6 +135,7 @@ void status_made(void)
         void *mapped = mmap(NULL, STATUS_BYTES, PROT_READ | PROT_WRITE, MAP_SHARED, file, 0);
         if (mapped != MAP_FAILED) {
             status = mapped;
+            own_memory(status, STATUS_BYTES);
             take_slot();
         }
     }

@@ -141,10 +141,11 @@ static bool window_opens(struct stream *stream, int flags)
     close(file);
     if (window == MAP_FAILED)
         return false;
+    own_memory(window, stream->window);
     if (stream->offset == 0)
         stream->first = window;
     else if (stream->end - stream->window != stream->first)
-        munmap(stream->end - stream->window, stream->window);
+        table_goes(stream->end - stream->window, stream->window);
     stream->at = stream->ready = window;
     stream->end = stream->at + stream->window;
     stream->offset = size;
@@ -367,8 +368,8 @@ static void unmap(struct stream *stream)
     if (!stream->first)
         return;
     if (stream->first != stream->end - stream->window)
-        munmap(stream->first, stream->window);
-    munmap(stream->end - stream->window, stream->window);
+        table_goes(stream->first, stream->window);
+    table_goes(stream->end - stream->window, stream->window);
     if (!all_slow)
         mmap(asked_page, PAGE_BYTES, PROT_READ | PROT_WRITE, MAP_PRIVATE | MAP_ANONYMOUS | MAP_FIXED, -1, 0);
     stream->at = stream->ready = stream->end = stream->first = NULL;
