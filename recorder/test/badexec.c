@@ -8,28 +8,27 @@
 #include <sys/wait.h>
 #include <unistd.h>
 
-#define UNREADABLE ((char *)8)
-
+static char *volatile nowhere, *volatile unreadable = (char *)8;
 static char *const words[] = {"x", NULL}, *const environment[] = {NULL};
 static char *end; /* of memory that can be read: no name ends there */
 
 static int call(int number)
 {
     switch (number) {
-    case 0: return execve(NULL, words, environment);
-    case 1: return execve(UNREADABLE, words, environment);
+    case 0: return execve(nowhere, words, environment);
+    case 1: return execve(unreadable, words, environment);
     case 2: return execve(end - 3, words, environment);
-    case 3: return execv(NULL, words);
-    case 4: return execv(UNREADABLE, words);
-    case 5: return execveat(AT_FDCWD, NULL, words, environment, 0);
-    case 6: return execveat(AT_FDCWD, UNREADABLE, words, environment, 0);
+    case 3: return execv(nowhere, words);
+    case 4: return execv(unreadable, words);
+    case 5: return execveat(AT_FDCWD, nowhere, words, environment, 0);
+    case 6: return execveat(AT_FDCWD, unreadable, words, environment, 0);
     case 7: return execveat(AT_FDCWD, "", words, environment, 0);
-    case 8: return fexecve(0, NULL, environment);
+    case 8: return fexecve(0, (char *const *)nowhere, environment);
     case 9: return fexecve(-1, words, environment);
     case 10: return execvp("", words);
     case 11: return execve("/no/such/folder/", words, environment);
     case 12: return execl("/no/such/file", "x", (char *)NULL);
-    default: return execve("/bin/true", (char *const *)UNREADABLE, environment);
+    default: return execve("/bin/true", (char *const *)unreadable, environment);
     }
 }
 
