@@ -223,8 +223,8 @@ static void own_GOMP_critical_name_end(void **name)
 #define OWN_OF(function) [AT_##function] = {.name = #function, .own = (void *)own_##function},
 static struct other glib[GLIB_COUNT] = {EACH_OF_GLIB(OWN_OF)};
 static struct other openmp[OPENMP_COUNT] = {EACH_OF_OPENMP(OWN_OF)};
-static const char *const glib_names[] = {"libglib-2.0.so.0", NULL};
-static const char *const openmp_names[] = {"libgomp.so.1", "libomp.so.5", "libomp.so", "libiomp5.so", NULL};
+static const char *const glib_names[] = {"libglib-2.0", NULL};
+static const char *const openmp_names[] = {"libgomp", "libomp", "libiomp5", NULL};
 
 struct other_library others[] = {{glib_names, glib, GLIB_COUNT}, {openmp_names, openmp, OPENMP_COUNT}};
 const uint32_t others_count = sizeof others / sizeof *others;

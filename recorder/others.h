@@ -15,7 +15,7 @@ struct other {
 };
 
 struct other_library {
-    const char *const *names; /* of its file, any of which it may have; NULL after the last */
+    const char *const *names; /* any of which its file's may begin with, before a dot or a dash; NULL after the last */
     struct other *functions;
     uint32_t count;
 };

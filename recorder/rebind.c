@@ -26,9 +26,15 @@ static _Atomic bool may_have_come, looks;
 /* So many objects, of those that are there, were looked at; and how many were gone by then. */
 static uint32_t looked_at;
 static unsigned long long gone;
+/* Libraries that were met among them, a bit for each; and where the file of each is. */
+enum { LIBRARIES_MOST = 8 };
+static uint32_t met;
+static char paths[LIBRARIES_MOST][PATH_MAX];
 
 void others_come(void)
 {
+    if (atomic_load(&may_have_come))
+        others_rebound();
     atomic_store(&may_have_come, true);
 }
 
@@ -38,13 +44,14 @@ struct walk {
     uint32_t count;
 };
 
+/* Once an object has gone, it isn't known any more which ones were looked at: none was. */
 static int walk_on(struct dl_phdr_info *info, size_t size, void *argument)
 {
     struct walk *walk = argument;
     (void)size;
     if (walk->count == 0 && info->dlpi_subs != gone) {
-        looked_at = 0;
         gone = info->dlpi_subs;
+        looked_at = met = 0;
     }
     if (walk->count >= looked_at && !walk->each(info))
         return 1;
@@ -60,20 +67,25 @@ static const char *base_of(const char *path)
 
 static bool is_named(const struct other_library *library, const char *name)
 {
-    for (const char *const *each = library->names; *each; each++)
-        if (strcmp(*each, name) == 0)
+    for (const char *const *each = library->names; *each; each++) {
+        size_t length = strlen(*each);
+        if (strncmp(*each, name, length) == 0 && (name[length] == '.' || name[length] == '-'))
             return true;
+    }
     return false;
 }
 
-/* Libraries that were met, a bit for each. */
-static uint32_t met;
+static uint32_t new_ones;
 
 static bool meet(const struct dl_phdr_info *info)
 {
-    for (uint32_t i = 0; i < others_count; i++)
-        if (is_named(&others[i], base_of(info->dlpi_name)))
-            met |= 1u << i;
+    for (uint32_t i = 0; i < others_count; i++) {
+        if ((met >> i & 1) || !is_named(&others[i], base_of(info->dlpi_name)) || strlen(info->dlpi_name) >= PATH_MAX)
+            continue;
+        strcpy(paths[i], info->dlpi_name);
+        new_ones |= 1u << i;
+        met |= 1u << i;
+    }
     return true;
 }
 
@@ -81,11 +93,9 @@ static bool meet(const struct dl_phdr_info *info)
  * The library's functions. Where a program's scope has another one of that name, an object that hasn't called it yet may
  * come to call that one: then the function is left alone.
  */
-static void find_functions(struct other_library *library)
+static void find_functions(struct other_library *library, const char *path)
 {
-    void *handle = NULL;
-    for (const char *const *name = library->names; *name && !handle; name++)
-        handle = real.dlopen(*name, RTLD_LAZY | RTLD_NOLOAD);
+    void *handle = real.dlopen(path, RTLD_LAZY | RTLD_NOLOAD);
     for (uint32_t i = 0; handle && i < library->count; i++) {
         struct other *function = &library->functions[i];
         void *first = dlsym(RTLD_DEFAULT, function->name), *found = dlsym(handle, function->name);
@@ -249,17 +259,16 @@ void others_rebound(void)
         return;
     atomic_store(&may_have_come, false);
     struct walk to_meet = {.each = meet}, to_rebind = {.each = rebind};
-    uint32_t known = met;
+    new_ones = 0;
     dl_iterate_phdr(walk_on, &to_meet);
     for (uint32_t i = 0; i < others_count; i++)
-        if ((met & ~known) >> i & 1)
-            find_functions(&others[i]);
-    if (met == 0)
-        looked_at = to_meet.count;
-    else if (dl_iterate_phdr(walk_on, &to_rebind) != 0)
+        if (new_ones >> i & 1)
+            find_functions(&others[i], paths[i]);
+    unsigned long long gone_before = gone;
+    bool is_whole = dl_iterate_phdr(walk_on, &to_rebind) == 0 && gone == gone_before;
+    if (!is_whole)
         atomic_store(&may_have_come, true);
-    if (met != 0)
-        looked_at = to_rebind.count;
+    looked_at = gone == gone_before ? to_rebind.count : 0;
     atomic_store(&looks, false);
     errno = before;
 }
