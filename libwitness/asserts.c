@@ -16,6 +16,7 @@ struct question {
     uint32_t lock;  /* the number of the one that is asked about, 0 of none */
     enum witness_kind kind;
     const char *text;
+    const volatile void *address; /* NULL where no lock is asked about */
     uint8_t flags;
     int64_t answer;
 };
@@ -121,16 +122,23 @@ static void ask(struct question *question, const struct thread *thread, const vo
     wit_free(&question->place);
 }
 
+static void ask_inside(void *argument)
+{
+    struct question *question = argument;
+    if (!recorder_enters())
+        return;
+    ask(question, &self, question->address);
+    recorder_leaves();
+}
+
 /* The answer of the verifier; 0 where it can't be asked. */
 static int64_t answer_to(struct question *question, const volatile void *address, struct caller caller)
 {
     if (!chain_opens(caller.stack))
         return 0;
-    if (recorder_enters()) {
-        ask(question, &self, address);
-        recorder_leaves();
-        judge_tells(caller);
-    }
+    question->address = address;
+    aside(ask_inside, question);
+    judge_tells(caller);
     self.state = OPEN;
     return question->answer > 0 ? question->answer : 0;
 }

@@ -125,7 +125,6 @@ void judge_waits(const struct request *request)
     else if (count > 0)
         keep_circle(seats, count);
     recorder_leaves();
-    judge_tells(request->caller);
 }
 
 void deadlock_acts(void)

@@ -174,6 +174,13 @@ void name_place(char to[FILE_ROOM], uint32_t number)
     clean(to, '!');
 }
 
+/* Any bytes may be in it, which a terminal or the log would take for its own. */
+void name_thread(char to[THREAD_NAME_ROOM])
+{
+    thread_name(&self, to);
+    clean(to, ' ');
+}
+
 bool is_place_by_name(uint32_t number)
 {
     return number && place_at(number)->file;

@@ -26,5 +26,7 @@ uint32_t place_line(uint32_t number);
 /* The function that the place is in, or an empty name. */
 const char *place_function(uint32_t number);
 bool is_place_by_name(uint32_t number);
+/* The name that this thread was given. */
+void name_thread(char to[THREAD_NAME_ROOM]);
 
 #endif

@@ -13,7 +13,6 @@
 #include <errno.h>
 #include <stdlib.h>
 #include <string.h>
-#include <sys/prctl.h>
 #include <sys/syscall.h>
 #include <unistd.h>
 
@@ -130,8 +129,8 @@ static bool is_told(const char *function)
 static size_t callers_put(char *to, size_t room, struct caller caller)
 {
     uint32_t found[CALLERS_MOST], count = callers(caller, CALLERS_MOST, found);
-    char name[17] = "", place[FILE_ROOM];
-    prctl(PR_GET_NAME, name);
+    char name[THREAD_NAME_ROOM], place[FILE_ROOM];
+    name_thread(name);
     int length = snprintf(to, room, "asked by thread %ld (%s):\n", syscall(SYS_gettid), name);
     for (uint32_t i = 0; i < count && found[i]; i++) {
         if (!is_place_by_name(found[i]) && !is_told(place_function(found[i])))
@@ -178,13 +177,27 @@ static void call_program(const struct witness_report *report)
         function(report, data);
 }
 
-static void tell_report(struct report *report, struct caller caller)
+struct telling {
+    struct report *report;
+    struct caller caller;
+};
+
+static void tell_text(void *argument)
 {
+    const struct telling *it = argument;
+    struct report *report = it->report;
     size_t length = report->length;
     find_places(report);
-    length += callers_put(report->text + length, CALLERS_ROOM, caller);
+    length += callers_put(report->text + length, CALLERS_ROOM, it->caller);
     tell(report->text, length);
     report->text[report->length] = '\0';
+}
+
+/* The program's function has the program's stack, and its signals. */
+static void tell_report(struct report *report, struct caller caller)
+{
+    struct telling it = {report, caller};
+    aside(tell_text, &it);
     call_program(&report->shown);
     witness_reported(&report->shown);
     if (report->shown.kind == WITNESS_DEADLOCK)

@@ -86,12 +86,18 @@ static void take_signals(const sigset_t *before)
         ;
 }
 
+struct text {
+    const char *from;
+    size_t length;
+};
+
 /*
  * A pipe that nobody reads any more, or a limit on the size of files, doesn't end the program; and the thread isn't
  * cancelled in a call that is none where it may be.
  */
-void tell(const char *text, size_t length)
+static void tell_text(void *argument)
 {
+    const struct text *text = argument;
     int before = errno, cancellation;
     sigset_t signals, outside, waiting;
     sigemptyset(&signals);
@@ -101,7 +107,7 @@ void tell(const char *text, size_t length)
     sigpending(&waiting);
     pthread_sigmask(SIG_BLOCK, &signals, &outside);
     errno = 0;
-    write_out(text, length);
+    write_out(text->from, text->length);
     if (errno == EPIPE || errno == EFBIG)
         take_signals(&waiting);
     pthread_sigmask(SIG_SETMASK, &outside, NULL);
@@ -109,17 +115,33 @@ void tell(const char *text, size_t length)
     errno = before;
 }
 
-void tell_line(const char *format, ...)
+void tell(const char *from, size_t length)
 {
+    struct text text = {from, length};
+    aside(tell_text, &text);
+}
+
+struct line {
+    const char *format;
+    va_list *words;
+};
+
+static void put_line(void *argument)
+{
+    struct line *it = argument;
     char line[512] = "witness: ";
     size_t length = strlen(line);
-    va_list words;
-    va_start(words, format);
-    int more = vsnprintf(line + length, sizeof line - length - 1, format, words);
-    va_end(words);
-    if (more < 0)
+    if (vsnprintf(line + length, sizeof line - length - 1, it->format, *it->words) < 0)
         return;
     length = strlen(line);
     line[length] = '\n';
     tell(line, length + 1);
+}
+
+void tell_line(const char *format, ...)
+{
+    va_list words;
+    va_start(words, format);
+    aside(put_line, &(struct line){format, &words});
+    va_end(words);
 }

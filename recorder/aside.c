@@ -1,22 +1,27 @@
 /*
  * Stacks of the recorder's own.
  *
- * A handler of signals may run on a stack that the program gave it, of a few kilobytes, most of which the kernel's frame
- * takes. What the recorder needs for a call that isn't quick is more than is left there. So it does that elsewhere. No
- * signal is delivered meanwhile, since a handler might need more stack than this one has.
+ * A call that isn't known yet takes the unwinder, which needs some kilobytes. A coroutine or a handler of signals may have
+ * fewer than that left, and nothing tells how many. So what takes more than a few hundred bytes is done elsewhere, whoever
+ * calls. No handler of the program's runs meanwhile: it might need more stack than there is here, or leave by a jump. But a
+ * fault may be one that the program sees to by itself. Its handler runs there, unless it has a stack of its own: on that one
+ * the thread may be just now, and the kernel, which doesn't see it there, would begin at its top again.
  */
 #include "recorder.h"
 
 #include <errno.h>
+#include <sys/mman.h>
 #include <sys/syscall.h>
 #include <unistd.h>
 
-/* With a stack of that size or more, a handler isn't in want. */
-enum { STACKS = 16, STACK_BYTES = 1 << 16, SMALL_MOST = 1 << 16 };
+/* As many as may be needed at once: others wait for the recorder's mutex on theirs. They are made when they are. */
+enum { STACKS = 256, STACK_BYTES = 1 << 16 };
 
 _Atomic bool has_small_stacks;
-static __attribute__((aligned(4096))) char stacks[STACKS][STACK_BYTES];
-static _Atomic bool taken[STACKS];
+static struct own_stack {
+    _Atomic bool taken;
+    char *from;
+} stacks[STACKS];
 
 /* Calls the function with the argument, with the stack pointer at the top. The unwinder finds the caller by its frame pointer. */
 void switch_stack(void (*function)(void *), void *argument, char *top) __attribute__((visibility("hidden")));
@@ -42,14 +47,93 @@ __asm__(".text\n"
         ".cfi_endproc\n"
         ".size switch_stack, . - switch_stack\n");
 
-bool is_on_other_stack(void)
+bool is_aside(uintptr_t stack)
 {
-    return (uintptr_t)__builtin_frame_address(0) - self.other_stack < self.other_size;
+    return self.own_stack && stack - self.own_stack < STACK_BYTES;
 }
 
-static bool is_on_small_stack(void)
+/* Below it lies a page that nobody may touch. */
+static bool is_made(struct own_stack *stack)
 {
-    return self.other_size < SMALL_MOST && is_on_other_stack();
+    if (stack->from)
+        return true;
+    char *from = mmap(NULL, PAGE_BYTES + STACK_BYTES, PROT_NONE, MAP_PRIVATE | MAP_ANONYMOUS | MAP_NORESERVE, -1, 0);
+    if (from == MAP_FAILED)
+        return false;
+    if (mprotect(from + PAGE_BYTES, STACK_BYTES, PROT_READ | PROT_WRITE) != 0) {
+        munmap(from, PAGE_BYTES + STACK_BYTES);
+        return false;
+    }
+    own_memory(from, PAGE_BYTES + STACK_BYTES);
+    stack->from = from + PAGE_BYTES;
+    return true;
+}
+
+/* NULL where there is none left, or no memory for it. */
+static struct own_stack *stack_taken(void)
+{
+    for (struct own_stack *stack = stacks; stack < stacks + STACKS; stack++) {
+        if (atomic_load_explicit(&stack->taken, memory_order_relaxed) || atomic_exchange(&stack->taken, true))
+            continue;
+        if (is_made(stack))
+            return stack;
+        atomic_store(&stack->taken, false);
+        break;
+    }
+    return NULL;
+}
+
+static void call_elsewhere(void (*function)(void *), void *argument)
+{
+    struct own_stack *stack = stack_taken();
+    uintptr_t before = self.own_stack;
+    if (!stack) {
+        function(argument);
+        return;
+    }
+    self.own_stack = (uintptr_t)stack->from;
+    switch_stack(function, argument, stack->from + STACK_BYTES);
+    self.own_stack = before;
+    atomic_store_explicit(&stack->taken, false, memory_order_release);
+}
+
+/* The kernel's call: the C library's takes more stack, and keeps two of its own signals from being blocked. */
+static void set_signals(const uint64_t *wanted, uint64_t *before)
+{
+    syscall(SYS_rt_sigprocmask, SIG_SETMASK, wanted, before, sizeof *wanted);
+}
+
+static uint64_t signal_bit(int number)
+{
+    return (uint64_t)1 << (number - 1);
+}
+
+static void call_undisturbed(void (*function)(void *), void *argument)
+{
+    uint64_t faults = signal_bit(SIGSEGV) | signal_bit(SIGBUS) | signal_bit(SIGFPE) | signal_bit(SIGILL)
+        | signal_bit(SIGTRAP);
+    uint64_t wanted = atomic_load(&has_small_stacks) ? UINT64_MAX : ~faults, before;
+    set_signals(&wanted, &before);
+    self.keeps_signals = true;
+    call_elsewhere(function, argument);
+    self.keeps_signals = false;
+    set_signals(&before, NULL);
+}
+
+void aside(void (*function)(void *), void *argument)
+{
+    int before = errno, cancellation;
+    if (is_aside((uintptr_t)__builtin_frame_address(0))) {
+        function(argument);
+        return;
+    }
+    pthread_setcancelstate(PTHREAD_CANCEL_DISABLE, &cancellation);
+    if (atomic_load_explicit(&has_handlers, memory_order_relaxed) && !self.keeps_signals)
+        call_undisturbed(function, argument);
+    else
+        call_elsewhere(function, argument);
+    pthread_setcancelstate(cancellation, NULL);
+    errno = before;
 }
 
 /* Where the thread's stack for handlers lies is remembered: to ask the kernel at each call would take too long. */
@@ -64,37 +148,10 @@ EXPORT int sigaltstack(const stack_t *restrict given, stack_t *restrict before)
     return answer;
 }
 
-/* The kernel's call: the C library's takes more stack, and keeps two of its own signals from being blocked. */
-static void set_signals(const uint64_t *wanted, uint64_t *before)
+/* The child's other threads are no more. */
+void aside_forked(void)
 {
-    syscall(SYS_rt_sigprocmask, SIG_SETMASK, wanted, before, sizeof *wanted);
-}
-
-COLD static void call_elsewhere(void (*function)(void *), void *argument)
-{
-    uint64_t all = UINT64_MAX, before;
-    set_signals(&all, &before);
-    uint32_t number = 0;
-    while (number < STACKS && atomic_exchange(&taken[number], true))
-        number++;
-    self.is_aside = true;
-    if (number < STACKS) {
-        switch_stack(function, argument, stacks[number] + STACK_BYTES);
-        atomic_store(&taken[number], false);
-    } else {
-        function(argument);
-    }
-    self.is_aside = false;
-    set_signals(&before, NULL);
-}
-
-void aside(void (*function)(void *), void *argument)
-{
-    int before = errno;
-    if (self.is_aside || !is_on_small_stack()) {
-        function(argument);
-        return;
-    }
-    errno = before;
-    call_elsewhere(function, argument);
+    for (struct own_stack *stack = stacks; stack < stacks + STACKS; stack++)
+        if (!is_aside((uintptr_t)stack->from))
+            atomic_store(&stack->taken, false);
 }

@@ -316,10 +316,7 @@ static COLD uint32_t new_origin(uintptr_t pc, uintptr_t stack, uintptr_t base)
     int before = errno;
     if (!goes_far_inside(HERE))
         return 0;
-    if (may_be_on_small_stack())
-        aside(look_for_origin, &taking);
-    else
-        look_for_origin(&taking);
+    aside(look_for_origin, &taking);
     goes_outside(&self);
     errno = before;
     return taking.origin;

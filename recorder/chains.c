@@ -176,6 +176,15 @@ static bool may_recur(const struct held *held, const struct request *request)
                                    : held->mode == EXCLUSIVE && request->lock->recursive;
 }
 
+/* Nothing like it was asked for before. */
+static void write_new(void *argument)
+{
+    struct request *request = argument;
+    if (!node_is_requested(request->node))
+        request->stack = stack_of(request->caller);
+    write_request(request);
+}
+
 /* Whether a request that may block, by a thread that holds something, has to be written; and writes it then. */
 static void consider(struct request *request)
 {
@@ -188,50 +197,15 @@ static void consider(struct request *request)
     }
     request->parent = last_node(request->thread);
     request->node = node_of(request->parent, request->lock->type->number);
-    bool known = node_is_requested(request->node);
-    if (!known)
-        request->stack = stack_of(request->caller);
-    if (!known || writes_all)
-        write_request(request);
+    if (!node_is_requested(request->node) || writes_all)
+        aside(write_new, request);
     else
         request->patient = true;
     if (request->node && request->thread->count != 0)
         order_noted(request);
-    /* All of the request is written: the process may end here. */
-    judge_tells(request->caller);
 }
 
-static __attribute__((noinline)) bool begins(struct request *request, const void *address, enum class class,
-    enum mode mode, struct caller caller, enum asking asking)
-{
-    struct thread *thread = &self;
-    if (UNLIKELY(!opens(thread, caller.stack)))
-        return false;
-    if (UNLIKELY(takes_long_way()))
-        answer(thread);
-    struct lock *lock = lock_at(address);
-    if (UNLIKELY(!lock) && !(lock = lock_met(address, class, caller))) {
-        goes_outside(thread);
-        return false;
-    }
-    request->thread = thread;
-    request->lock = lock;
-    request->again = held_of(thread, lock);
-    request->caller = caller;
-    request->place = place_of(caller);
-    request->stack = stack_of_held(request->place, caller);
-    request->node = 0;
-    request->mode = mode;
-    request->tried = asking == TRIES;
-    request->timed = asking == ASKS_FOR_A_TIME;
-    request->ends_wait = false;
-    request->patient = request->again_refused = false;
-    request->pending = 0;
-    if (!request->tried && (thread->count != 0 || writes_all))
-        consider(request);
-    return true;
-}
-
+/* A request that begins; its place where that is known and no stack is wanted there, else 0. */
 struct beginning {
     struct request *request;
     const void *address;
@@ -239,22 +213,94 @@ struct beginning {
     enum class class;
     enum mode mode;
     enum asking asking;
+    uint32_t place;
     bool begun;
 };
 
-static void begin_aside(void *argument)
+static void fill(struct request *request, const struct beginning *it, struct lock *lock)
 {
-    struct beginning *it = argument;
-    it->begun = begins(it->request, it->address, it->class, it->mode, it->caller, it->asking);
+    struct thread *thread = &self;
+    request->thread = thread;
+    request->lock = lock;
+    request->again = held_of(thread, lock);
+    request->caller = it->caller;
+    request->place = it->place ? it->place : place_of(it->caller);
+    request->stack = it->place ? 0 : stack_of_held(request->place, it->caller);
+    request->node = 0;
+    request->mode = it->mode;
+    request->tried = it->asking == TRIES;
+    request->timed = it->asking == ASKS_FOR_A_TIME;
+    request->ends_wait = false;
+    request->patient = request->again_refused = false;
+    request->pending = 0;
 }
 
+static inline void begin_inside(struct beginning *it, struct lock *lock)
+{
+    fill(it->request, it, lock);
+    if (!it->request->tried && (self.count != 0 || writes_all))
+        consider(it->request);
+    it->begun = true;
+}
+
+static void begin(void *argument)
+{
+    struct beginning *it = argument;
+    struct thread *thread = &self;
+    if (UNLIKELY(!opens(thread, it->caller.stack)))
+        return;
+    if (UNLIKELY(takes_long_way()))
+        answer(thread);
+    struct lock *lock = lock_at(it->address);
+    if (LIKELY(lock) || (lock = lock_met(it->address, it->class, it->caller)))
+        begin_inside(it, lock);
+    else
+        goes_outside(thread);
+}
+
+/* Nothing stands between the thread and its chain. */
+static inline bool is_open(const struct thread *thread)
+{
+    return LIKELY(thread->state == OPEN) && LIKELY(!takes_long_way())
+        && LIKELY(thread->lost_seen == atomic_load_explicit(&lost_total, memory_order_relaxed));
+}
+
+/* The number of the place where it is known and no stack is wanted there; else 0. */
+static inline uint32_t plain_place(uintptr_t pc)
+{
+    uint32_t place = place_at_pc(pc);
+    return LIKELY(place && detour_at(place) == DETOUR_NONE) ? place : 0;
+}
+
+/* If there is a fault of the program's own in the lock's memory, it comes here, as it would in the real call. */
+static void touch(const void *address, enum class class)
+{
+    if (class == MUTEX)
+        (void)*(const volatile int *)&((const pthread_mutex_t *)address)->__data.__kind;
+    else if (class == RWLOCK)
+        (void)*(const volatile int *)&((const pthread_rwlock_t *)address)->__data.__shared;
+}
+
+/* Where lock and place are known, what begins takes little of the program's stack. */
 bool request_begins(struct request *request, const void *address, enum class class, enum mode mode,
     struct caller caller, enum asking asking)
 {
-    if (!may_be_on_small_stack())
-        return begins(request, address, class, mode, caller, asking);
-    struct beginning it = {request, address, caller, class, mode, asking, false};
-    aside(begin_aside, &it);
+    struct beginning it = {request, address, caller, class, mode, asking, 0, false};
+    if (UNLIKELY(is_asleep()))
+        return false;
+    struct lock *lock = is_open(&self) && (it.place = plain_place(caller.pc)) ? lock_at(address) : NULL;
+    if (LIKELY(lock)) {
+        self.state = caller.stack;
+        atomic_signal_fence(memory_order_seq_cst);
+        begin_inside(&it, lock);
+    } else {
+        it.place = 0;
+        touch(address, class);
+        aside(begin, &it);
+    }
+    /* All of the request is written: the process may end here. */
+    if (it.begun)
+        judge_tells(caller);
     return it.begun;
 }
 
@@ -267,16 +313,13 @@ static void waits_aside(void *argument)
         write_waits_for_itself(request);
     else if (!request->again && (streams_have_files() || judge_watches_waits()))
         write_request(request);
-    judge_tells(request->caller);
     judge_waits(request);
 }
 
 COLD void request_waits(struct request *request)
 {
-    if (!may_be_on_small_stack())
-        waits_aside(request);
-    else
-        aside(waits_aside, request);
+    aside(waits_aside, request);
+    judge_tells(request->caller);
 }
 
 static inline void add_held(struct request *request)
@@ -356,7 +399,7 @@ static void refused_aside(void *request)
 /* The call has returned, with the lock or without. */
 void request_ends(struct request *request, bool got)
 {
-    if (!may_be_on_small_stack())
+    if (!request->pending && !request->again_refused && !writes_all && self.count != self.room)
         ends(request, got);
     else
         aside(got ? got_aside : refused_aside, request);
@@ -420,10 +463,19 @@ static void release_aside(void *argument)
     release(it->address, it->caller);
 }
 
+/* Whether it releases what it holds, and the stream has nothing of that: so that it takes little of the program's stack. */
+static bool releases_simply(const void *address)
+{
+    const struct held *held = is_open(&self) && self.room == HELD_FEW ? held_at(&self, address) : NULL;
+    return held && !held->written;
+}
+
 /* The thread is about to release the lock, whichever call it uses. */
 void release_begins(const void *address, struct caller caller)
 {
-    if (!may_be_on_small_stack()) {
+    if (is_asleep())
+        return;
+    if (releases_simply(address)) {
         release(address, caller);
         return;
     }
@@ -431,11 +483,13 @@ void release_begins(const void *address, struct caller caller)
     aside(release_aside, &it);
 }
 
-/*
- * The thread is about to wait for a condition, and gives up the mutex. ASKS_AGAIN where the call isn't one that is
- * refused: then it asks for the mutex again. False where it isn't known to hold it.
- */
-bool wait_begins(struct request *request, const void *address, bool asks_again, struct caller caller)
+static void give_up(void *request)
+{
+    write_given_up(request);
+}
+
+static bool wait_opens(struct request *request, const void *address, bool asks_again,
+    struct caller caller)
 {
     struct thread *thread = &self;
     if (UNLIKELY(!opens(thread, caller.stack)))
@@ -459,11 +513,42 @@ bool wait_begins(struct request *request, const void *address, bool asks_again, 
     if (asks_again && !request->again && thread->count != 0) {
         consider(request);
         if (request->pending)
-            write_given_up(request);
+            aside(give_up, request);
         request->patient = false;
         waiter_begins(request, address);
     }
     return true;
+}
+
+struct waiting {
+    struct request *request;
+    const void *address;
+    struct caller caller;
+    bool asks_again, begun;
+};
+
+static void open_wait(void *argument)
+{
+    struct waiting *it = argument;
+    it->begun = wait_opens(it->request, it->address, it->asks_again, it->caller);
+}
+
+/*
+ * The thread is about to wait for a condition, and gives up the mutex. ASKS_AGAIN where the call isn't one that is
+ * refused: then it asks for the mutex again. False where it isn't known to hold it.
+ */
+bool wait_begins(struct request *request, const void *address, bool asks_again, struct caller caller)
+{
+    if (is_asleep())
+        return false;
+    struct waiting it = {request, address, caller, asks_again, false};
+    if (releases_simply(address) && plain_place(caller.pc))
+        open_wait(&it);
+    else
+        aside(open_wait, &it);
+    if (it.begun)
+        judge_tells(caller);
+    return it.begun;
 }
 
 /*
@@ -477,8 +562,10 @@ void wait_ends(struct request *request, int answer)
     waiter_ends(request);
     request->again = held_of(thread, request->lock);
     request->tried = !(request->pending || answer == 0 || answer == ETIMEDOUT || answer == EOWNERDEAD);
-    if (!request->pending && !request->tried && (thread->count != 0 || writes_all))
+    if (!request->pending && !request->tried && (thread->count != 0 || writes_all)) {
         consider(request);
+        judge_tells(request->caller);
+    }
     request_ends(request, answer != ENOTRECOVERABLE);
 }
 

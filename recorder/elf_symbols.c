@@ -69,6 +69,7 @@ void elf_opens(struct elf *elf, const char *path, const ElfW(Phdr) *segments, ui
         if (bytes != MAP_FAILED) {
             elf->bytes = bytes;
             elf->size = (size_t)found.st_size;
+            own_memory(elf->bytes, elf->size);
         }
     }
     close(file);
@@ -189,7 +190,7 @@ static void read_kind(struct elf *elf, int kind)
             symbols[at++] = (struct symbol){symbol->st_value, symbol->st_value + symbol->st_size, 0, i, symbol->st_name};
     }
     struct symbol *result = sorted(symbols, other, count);
-    munmap(result == symbols ? other : symbols, count * sizeof *other);
+    table_goes(result == symbols ? other : symbols, count * sizeof *other);
     uint64_t furthest = 0;
     for (uint32_t i = 0; i < count; i++) {
         if (result[i].to > furthest)

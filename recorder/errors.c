@@ -62,17 +62,30 @@ static COLD void tell(enum lock_error error, struct lock *lock, uint32_t place)
         write_error(&self, error, lock, place);
 }
 
+struct met {
+    enum lock_error error;
+    const void *address;
+    struct caller caller;
+};
+
+static void tell_met(void *argument)
+{
+    const struct met *it = argument;
+    uint32_t place = place_of(it->caller);
+    if (!recorder_enters())
+        return;
+    struct lock *lock = lock_at(it->address);
+    if (lock)
+        tell(it->error, lock, place);
+    recorder_leaves();
+}
+
 void error_at(enum lock_error error, const void *address, struct caller caller)
 {
+    struct met it = {error, address, caller};
     if (!goes_far_inside(caller.stack))
         return;
-    uint32_t place = place_of(caller);
-    if (recorder_enters()) {
-        struct lock *lock = lock_at(address);
-        if (lock)
-            tell(error, lock, place);
-        recorder_leaves();
-    }
+    aside(tell_met, &it);
     goes_outside(&self);
 }
 
@@ -96,19 +109,23 @@ void error_of_freed(struct lock *lock)
  * The lock is one that a writer has before further readers, where that is its kind: then a writer that waits in between
  * waits for the thread, and the thread for the writer. Whether a lock that the program tells of is so isn't known.
  */
-COLD void error_of_reread(struct request *request)
+static void tell_reread(void *argument)
 {
-    const struct lock *lock = request->lock;
-    const pthread_rwlock_t *own = (const void *)atomic_load(&lock->address);
-    bool is_told = lock->type->class == TOLD_RWLOCK;
-    if (!is_told && own->__data.__flags != PTHREAD_RWLOCK_PREFER_WRITER_NONRECURSIVE_NP)
-        return;
+    const struct request *request = argument;
     if (!recorder_enters())
         return;
     count_missed_all(MISSED_REREADS);
-    if (!is_told)
+    if (request->lock->type->class != TOLD_RWLOCK)
         tell(ERROR_REREAD, request->lock, request->place);
     recorder_leaves();
+}
+
+COLD void error_of_reread(struct request *request)
+{
+    const pthread_rwlock_t *lock = (const void *)atomic_load(&request->lock->address);
+    if (request->lock->type->class == TOLD_RWLOCK
+        || lock->__data.__flags == PTHREAD_RWLOCK_PREFER_WRITER_NONRECURSIVE_NP)
+        aside(tell_reread, request);
 }
 
 void error_of_wait(const pthread_mutex_t *mutex, struct caller caller)
@@ -116,6 +133,17 @@ void error_of_wait(const pthread_mutex_t *mutex, struct caller caller)
     if (mutex->__data.__lock == 0 || ((mutex->__data.__kind & 3) != PTHREAD_MUTEX_ADAPTIVE_NP && mutex->__data.__owner != 0
             && mutex->__data.__owner != (int)syscall(SYS_gettid)))
         error_at(ERROR_WAITED, mutex, caller);
+}
+
+static void tell_held(void *unused)
+{
+    (void)unused;
+    if (!recorder_enters())
+        return;
+    for (uint32_t i = 0; i < self.count; i++)
+        if (stands_for_lock(&self.held[i]) && !is_robust(self.held[i].lock))
+            tell(ERROR_ENDED, self.held[i].lock, self.held[i].place);
+    recorder_leaves();
 }
 
 /*
@@ -130,12 +158,7 @@ static void thread_ends(void *round)
     }
     if (self.count == 0 || !goes_far_inside(HERE))
         return;
-    if (recorder_enters()) {
-        for (uint32_t i = 0; i < self.count; i++)
-            if (stands_for_lock(&self.held[i]) && !is_robust(self.held[i].lock))
-                tell(ERROR_ENDED, self.held[i].lock, self.held[i].place);
-        recorder_leaves();
-    }
+    aside(tell_held, NULL);
     goes_outside(&self);
 }
 

@@ -42,7 +42,10 @@ enum { ASKED_AT = 6, ASKED_NOT = '0', ASKED_NOW = '1', ASKED_ALWAYS = '3' };
 #define WORD_THREAD "thread"
 /* What stands where there is no name. */
 #define NO_NAME "-"
-/* In a word of the program's own a byte that would end it is this and two hexadecimal digits, as is this one itself. */
+/*
+ * In a word that isn't the recorder's own (words.c) a byte that would end it is this and two hexadecimal digits, as is this
+ * one itself.
+ */
 #define ESCAPE '%'
 
 /* Calls of the trace. */
@@ -86,7 +89,8 @@ enum { ASKED_AT = 6, ASKED_NOT = '0', ASKED_NOW = '1', ASKED_ALWAYS = '3' };
 
 /*
  * The counts of a stream: calls that it lacks; two of which it has a line for each place alone; locks in blocks of memory
- * that aren't known; and those that were read again by a thread that read them, where a writer may come in between.
+ * that aren't known; those that were read again by a thread that read them, where a writer may come in between; and lines
+ * that were left out, since a name made them too long.
  */
 #define EACH_MISSED(EACH)                                                                                              \
     EACH(MISSED_SEATS, "seats")                                                                                        \
@@ -97,7 +101,8 @@ enum { ASKED_AT = 6, ASKED_NOT = '0', ASKED_NOW = '1', ASKED_ALWAYS = '3' };
     EACH(MISSED_RELEASES, "releases")                                                                                  \
     EACH(MISSED_AGAIN, "again")                                                                                        \
     EACH(MISSED_BLOCKS, "blocks")                                                                                      \
-    EACH(MISSED_REREADS, "rereads")
+    EACH(MISSED_REREADS, "rereads")                                                                                    \
+    EACH(MISSED_LONG, "long")
 
 /*
  * The counts of a process, in the status. What failed outside the streams: lines for which the file couldn't be opened,

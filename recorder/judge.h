@@ -35,7 +35,7 @@ void judge_missed(enum missed what);
 bool judge_watches_waits(void);
 /* Whether the request, which is written, closes a circle of threads that wait for one another. Under the mutex. */
 bool judge_sees_circle(const struct request *request);
-/* Outside the mutex: the request has waited for a second, and is written. */
+/* Outside the mutex: the request has waited for a second, and is written. What it brings is told by judge_tells. */
 void judge_waits(const struct request *request);
 
 /* Outside the mutex: what this thread's lines were answered, before the real call of the request; and any other news. */

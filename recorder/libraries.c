@@ -36,6 +36,7 @@ EXPORT void *dlopen(const char *name, int how)
 {
     start();
     library_opens(name, how & RTLD_DEEPBIND, HERE);
+    others_come();
     return real.dlopen(name, how);
 }
 

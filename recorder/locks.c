@@ -268,20 +268,28 @@ static void forget(struct lock *lock, bool nobody_holds)
 /* How many locks there ever were. */
 static _Atomic uint32_t serials;
 
-static void read_kind(struct lock *lock, const void *address, enum class class)
+/* What a mutex's kind is among others; a rwlock's has it here alone. */
+enum { SHARED_BY_PROCESSES = 128 };
+
+/* Read outside the mutex: a handler of the program's may bring the memory that a mutex is in, and may lock others for it. */
+static int kind_at(const void *address, enum class class)
 {
-    enum { SHARED_BY_PROCESSES = 128 };
-    int kind = class == MUTEX ? ((const pthread_mutex_t *)address)->__data.__kind : 0;
+    if (class == RWLOCK)
+        return *(const volatile int *)&((const pthread_rwlock_t *)address)->__data.__shared ? SHARED_BY_PROCESSES : 0;
+    return class == MUTEX ? *(const volatile int *)&((const pthread_mutex_t *)address)->__data.__kind : 0;
+}
+
+static void take_kind(struct lock *lock, enum class class, int kind)
+{
     bool robust = kind & 16;
-    lock->shared = class == MUTEX ? kind & SHARED_BY_PROCESSES
-                                  : class == RWLOCK && ((const pthread_rwlock_t *)address)->__data.__shared;
+    lock->shared = kind & SHARED_BY_PROCESSES;
     lock->recursive = class == MUTEX && (kind & 3) == PTHREAD_MUTEX_RECURSIVE_NP;
     lock->loses = class == SPIN || class == SEMAPHORE
         || (class == MUTEX && !robust
             && ((kind & 3) == PTHREAD_MUTEX_TIMED_NP || (kind & 3) == PTHREAD_MUTEX_ADAPTIVE_NP));
 }
 
-static struct lock *add(const void *address, const struct type *wanted)
+static struct lock *add(const void *address, const struct type *wanted, int kind)
 {
     struct type *type = type_of(wanted);
     struct lock *lock = free_locks ? free_locks : lock_numbered(locks_taken);
@@ -289,7 +297,7 @@ static struct lock *add(const void *address, const struct type *wanted)
         count_missed_all(type ? MISSED_LOCKS : MISSED_TYPES);
         return NULL;
     }
-    read_kind(lock, address, wanted->class);
+    take_kind(lock, wanted->class, kind);
     lock->name = name_for(type, (uintptr_t)address, lock);
     if (!lock->name) {
         count_missed_all(MISSED_LOCKS);
@@ -366,6 +374,7 @@ COLD struct lock *lock_met(const void *address, enum class class, struct caller 
     uint32_t places[DEPTH_MOST] = {0};
     /* This comes before the search for the lock's object, since it looks for objects that are new. */
     places_of(caller, places);
+    int kind = kind_at(address, class);
     if (!recorder_enters())
         return NULL;
     struct lock *lock = lock_at(address);
@@ -377,7 +386,7 @@ COLD struct lock *lock_met(const void *address, enum class class, struct caller 
             memcpy(wanted.places, places, sizeof places);
         if (!wanted.object)
             look_for_block(&wanted);
-        lock = add(address, &wanted);
+        lock = add(address, &wanted, kind);
     }
     recorder_leaves();
     return lock;
@@ -404,27 +413,42 @@ void lock_made(const void *address, enum class class, struct caller caller)
     lock_made_as(address, class, caller, NULL);
 }
 
+struct making {
+    const void *address;
+    enum class class;
+    struct caller caller;
+    const char *type;
+};
+
+static void make(void *argument)
+{
+    const struct making *it = argument;
+    struct type wanted = {.class = it->class, .address = (uintptr_t)it->address};
+    places_of(it->caller, wanted.places);
+    int kind = kind_at(it->address, it->class);
+    if (!recorder_enters())
+        return;
+    struct lock *before = lock_at(it->address);
+    if (before)
+        forget(before, false);
+    wanted.label = type_label(it->type);
+    if (!wanted.label) {
+        wanted.object = object_of(wanted.address, false);
+        wanted.anchor = anchor_of(wanted.address);
+        if (!wanted.object)
+            look_for_block(&wanted);
+    }
+    add(it->address, &wanted, kind);
+    recorder_leaves();
+}
+
 /* As lock_made, of a type of that name; NULL where it is to be told by variable and callers. */
 void lock_made_as(const void *address, enum class class, struct caller caller, const char *type)
 {
+    struct making it = {address, class, caller, type};
     if (!goes_far_inside(caller.stack))
         return;
-    struct type wanted = {.class = class, .address = (uintptr_t)address};
-    places_of(caller, wanted.places);
-    if (recorder_enters()) {
-        struct lock *before = lock_at(address);
-        if (before)
-            forget(before, false);
-        wanted.label = type_label(type);
-        if (!wanted.label) {
-            wanted.object = object_of((uintptr_t)address, false);
-            wanted.anchor = anchor_of((uintptr_t)address);
-            if (!wanted.object)
-                look_for_block(&wanted);
-        }
-        add(address, &wanted);
-        recorder_leaves();
-    }
+    aside(make, &it);
     self.state = OPEN;
 }
 
@@ -469,6 +493,24 @@ static struct lock *lock_in(uintptr_t *at, uintptr_t end)
     return NULL;
 }
 
+struct block {
+    uintptr_t from, end;
+};
+
+static void free_locks_in(void *argument)
+{
+    const struct block *block = argument;
+    uintptr_t at = block->from;
+    struct lock *lock;
+    if (!recorder_enters())
+        return;
+    while ((lock = lock_in(&at, block->end)) != NULL) {
+        error_of_freed(lock);
+        forget(lock, is_free(lock));
+    }
+    recorder_leaves();
+}
+
 /* The block is about to be freed, and the locks in it with it. */
 void locks_freed(const void *block)
 {
@@ -480,14 +522,8 @@ void locks_freed(const void *block)
         return;
     if (!goes_far_inside(HERE))
         return;
-    if (recorder_enters()) {
-        struct lock *lock;
-        while ((lock = lock_in(&at, end)) != NULL) {
-            error_of_freed(lock);
-            forget(lock, is_free(lock));
-        }
-        recorder_leaves();
-    }
+    struct block freed = {at, end};
+    aside(free_locks_in, &freed);
     self.state = OPEN;
 }
 

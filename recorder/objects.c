@@ -269,7 +269,7 @@ void objects_look(void)
         }
         recorder_leaves();
     }
-    munmap(walk, sizeof *walk);
+    table_goes(walk, sizeof *walk);
 }
 
 void objects_begin(void)

@@ -5,51 +5,51 @@
  */
 #include "ways.h"
 
-#include <dlfcn.h>
+#include "others.h"
 
 /* The omp_nest_lock_t and the name of a critical section are known here by their addresses alone. */
 typedef void by_address(void *);
 typedef int answered_by_address(void *);
 
-/*
- * A function of a library that the program may have opened late, and for itself alone. The library is there, since
- * somebody calls its function.
- */
-static COLD void *found(const char *name, const char *const *libraries)
-{
-    void *function = dlsym(RTLD_NEXT, name);
-    for (; !function && *libraries; libraries++) {
-        void *library = real.dlopen(*libraries, RTLD_LAZY | RTLD_NOLOAD);
-        if (library) {
-            function = dlsym(library, name);
-            real.dlclose(library);
-        }
-    }
-    return function;
-}
+#define EACH_OF_GLIB(EACH)                                                                                             \
+    EACH(g_mutex_init)                                                                                                 \
+    EACH(g_mutex_clear)                                                                                                \
+    EACH(g_mutex_lock)                                                                                                 \
+    EACH(g_mutex_trylock)                                                                                              \
+    EACH(g_mutex_unlock)                                                                                               \
+    EACH(g_cond_wait)                                                                                                  \
+    EACH(g_cond_wait_until)
+#define EACH_OF_OPENMP(EACH)                                                                                           \
+    EACH(omp_init_lock)                                                                                                \
+    EACH(omp_destroy_lock)                                                                                             \
+    EACH(omp_set_lock)                                                                                                 \
+    EACH(omp_test_lock)                                                                                                \
+    EACH(omp_unset_lock)                                                                                               \
+    EACH(omp_init_nest_lock)                                                                                           \
+    EACH(omp_destroy_nest_lock)                                                                                        \
+    EACH(omp_set_nest_lock)                                                                                            \
+    EACH(omp_test_nest_lock)                                                                                           \
+    EACH(omp_unset_nest_lock)                                                                                          \
+    EACH(GOMP_critical_start)                                                                                          \
+    EACH(GOMP_critical_end)                                                                                            \
+    EACH(GOMP_critical_name_start)                                                                                     \
+    EACH(GOMP_critical_name_end)
 
-static const char *const glib[] = {"libglib-2.0.so.0", NULL};
-static const char *const openmp[] = {"libgomp.so.1", "libomp.so.5", "libomp.so", "libiomp5.so", NULL};
+#define IN_TABLE(name) AT_##name,
+enum { EACH_OF_GLIB(IN_TABLE) GLIB_COUNT };
+enum { EACH_OF_OPENMP(IN_TABLE) OPENMP_COUNT };
+static struct other glib[GLIB_COUNT], openmp[OPENMP_COUNT];
 
-/* The real function of that name, once it was looked for. */
-#define REAL(type, name, libraries)                                                                        \
-    ({                                                                                                     \
-        static _Atomic(void *) kept;                                                                       \
-        void *function = atomic_load_explicit(&kept, memory_order_relaxed);                                \
-        if (UNLIKELY(!function)) {                                                                         \
-            start();                                                                                       \
-            function = found(name, libraries);                                                             \
-            atomic_store_explicit(&kept, function, memory_order_relaxed);                                  \
-        }                                                                                                  \
-        (__typeof__(type) *)function;                                                                                  \
-    })
+/* The real function: nobody comes here before it is known. */
+#define REAL(type, library, name)                                                                                      \
+    ((__typeof__(type) *)atomic_load_explicit(&(library)[AT_##name].real, memory_order_relaxed))
 
 /* The ways of calls without an answer, and of tries that answer 0 where the lock isn't free. No call has a time limit. */
 #define WAY(kind, library, lock_name, try_name)                                                            \
-    static int kind##_lock(void *lock) { return REAL(by_address, lock_name, library)(lock), 0; }           \
+    static int kind##_lock(void *lock) { return REAL(by_address, library, lock_name)(lock), 0; }           \
     static int kind##_try(void *lock)                                                                      \
     {                                                                                                      \
-        return REAL(answered_by_address, try_name, library)(lock) ? 0 : EBUSY;                             \
+        return REAL(answered_by_address, library, try_name)(lock) ? 0 : EBUSY;                             \
     }                                                                                                      \
     static int kind##_timed(void *lock, const struct timespec *unused)                                     \
     {                                                                                                      \
@@ -58,95 +58,95 @@ static const char *const openmp[] = {"libgomp.so.1", "libomp.so.5", "libomp.so",
     }                                                                                                      \
     static const struct way kind##_way = {SPIN, EXCLUSIVE, kind##_lock, kind##_try, kind##_timed, kind##_try}
 
-WAY(glib, glib, "g_mutex_lock", "g_mutex_trylock");
-WAY(omp, openmp, "omp_set_lock", "omp_test_lock");
+WAY(glib, glib, g_mutex_lock, g_mutex_trylock);
+WAY(omp, openmp, omp_set_lock, omp_test_lock);
 
-EXPORT void g_mutex_init(void *mutex)
+static void own_g_mutex_init(void *mutex)
 {
-    REAL(by_address, "g_mutex_init", glib)(mutex);
+    REAL(by_address, glib, g_mutex_init)(mutex);
     lock_made(mutex, SPIN, CALLER);
 }
 
-EXPORT void g_mutex_clear(void *mutex)
+static void own_g_mutex_clear(void *mutex)
 {
-    REAL(by_address, "g_mutex_clear", glib)(mutex);
+    REAL(by_address, glib, g_mutex_clear)(mutex);
     lock_gone(mutex);
 }
 
-EXPORT void g_mutex_lock(void *mutex)
+static void own_g_mutex_lock(void *mutex)
 {
     acquire(&glib_way, mutex, CALLER);
 }
 
-EXPORT int g_mutex_trylock(void *mutex)
+static int own_g_mutex_trylock(void *mutex)
 {
     return acquire_at_once(&glib_way, mutex, CALLER) == 0;
 }
 
-EXPORT void g_mutex_unlock(void *mutex)
+static void own_g_mutex_unlock(void *mutex)
 {
     release(mutex, CALLER);
-    REAL(by_address, "g_mutex_unlock", glib)(mutex);
+    REAL(by_address, glib, g_mutex_unlock)(mutex);
 }
 
-EXPORT void g_cond_wait(void *condition, void *mutex)
+static void own_g_cond_wait(void *condition, void *mutex)
 {
     struct request request;
     start();
     bool recorded = wait_begins(&request, mutex, true, CALLER);
-    REAL(void(void *, void *), "g_cond_wait", glib)(condition, mutex);
+    REAL(void(void *, void *), glib, g_cond_wait)(condition, mutex);
     if (recorded)
         wait_ends(&request, 0);
 }
 
-EXPORT int g_cond_wait_until(void *condition, void *mutex, int64_t end)
+static int own_g_cond_wait_until(void *condition, void *mutex, int64_t end)
 {
     struct request request;
     start();
     bool recorded = wait_begins(&request, mutex, true, CALLER);
-    int signaled = REAL(int(void *, void *, int64_t), "g_cond_wait_until", glib)(condition, mutex, end);
+    int signaled = REAL(int(void *, void *, int64_t), glib, g_cond_wait_until)(condition, mutex, end);
     if (recorded)
         wait_ends(&request, 0);
     return signaled;
 }
 
-EXPORT void omp_init_lock(void *lock)
+static void own_omp_init_lock(void *lock)
 {
-    REAL(by_address, "omp_init_lock", openmp)(lock);
+    REAL(by_address, openmp, omp_init_lock)(lock);
     lock_made(lock, SPIN, CALLER);
 }
 
-EXPORT void omp_destroy_lock(void *lock)
+static void own_omp_destroy_lock(void *lock)
 {
-    REAL(by_address, "omp_destroy_lock", openmp)(lock);
+    REAL(by_address, openmp, omp_destroy_lock)(lock);
     lock_gone(lock);
 }
 
-EXPORT void omp_set_lock(void *lock)
+static void own_omp_set_lock(void *lock)
 {
     acquire(&omp_way, lock, CALLER);
 }
 
-EXPORT int omp_test_lock(void *lock)
+static int own_omp_test_lock(void *lock)
 {
     return acquire_at_once(&omp_way, lock, CALLER) == 0;
 }
 
-EXPORT void omp_unset_lock(void *lock)
+static void own_omp_unset_lock(void *lock)
 {
     release(lock, CALLER);
-    REAL(by_address, "omp_unset_lock", openmp)(lock);
+    REAL(by_address, openmp, omp_unset_lock)(lock);
 }
 
-EXPORT void omp_init_nest_lock(void *lock)
+static void own_omp_init_nest_lock(void *lock)
 {
-    REAL(by_address, "omp_init_nest_lock", openmp)(lock);
+    REAL(by_address, openmp, omp_init_nest_lock)(lock);
     lock_made(lock, SPIN, CALLER);
 }
 
-EXPORT void omp_destroy_nest_lock(void *lock)
+static void own_omp_destroy_nest_lock(void *lock)
 {
-    REAL(by_address, "omp_destroy_nest_lock", openmp)(lock);
+    REAL(by_address, openmp, omp_destroy_nest_lock)(lock);
     lock_gone(lock);
 }
 
@@ -154,32 +154,32 @@ EXPORT void omp_destroy_nest_lock(void *lock)
  * A lock that its holder may take again. The try says how often it is held then, so that only the first time is
  * recorded, and the last release.
  */
-EXPORT void omp_set_nest_lock(void *lock)
+static void own_omp_set_nest_lock(void *lock)
 {
     struct request request;
-    int times = REAL(answered_by_address, "omp_test_nest_lock", openmp)(lock);
+    int times = REAL(answered_by_address, openmp, omp_test_nest_lock)(lock);
     if (times > 1)
         return;
     bool begun = request_begins(&request, lock, SPIN, EXCLUSIVE, CALLER, ASKS);
     if (times == 0)
-        REAL(by_address, "omp_set_nest_lock", openmp)(lock);
+        REAL(by_address, openmp, omp_set_nest_lock)(lock);
     if (begun)
         request_ends(&request, true);
 }
 
-EXPORT int omp_test_nest_lock(void *lock)
+static int own_omp_test_nest_lock(void *lock)
 {
     struct request request;
-    int times = REAL(answered_by_address, "omp_test_nest_lock", openmp)(lock);
+    int times = REAL(answered_by_address, openmp, omp_test_nest_lock)(lock);
     if (times == 1 && request_begins(&request, lock, SPIN, EXCLUSIVE, CALLER, TRIES))
         request_ends(&request, true);
     return times;
 }
 
-EXPORT void omp_unset_nest_lock(void *lock)
+static void own_omp_unset_nest_lock(void *lock)
 {
-    by_address *unset = REAL(by_address, "omp_unset_nest_lock", openmp);
-    if (REAL(answered_by_address, "omp_test_nest_lock", openmp)(lock) == 2)
+    by_address *unset = REAL(by_address, openmp, omp_unset_nest_lock);
+    if (REAL(answered_by_address, openmp, omp_test_nest_lock)(lock) == 2)
         release(lock, CALLER);
     unset(lock);
     unset(lock);
@@ -198,24 +198,33 @@ static void enter_critical(const void *lock, struct caller caller, by_address *r
 }
 
 /* The real ones take no argument, and look at none. */
-EXPORT void GOMP_critical_start(void)
+static void own_GOMP_critical_start(void)
 {
-    enter_critical(&omp_critical, CALLER, REAL(by_address, "GOMP_critical_start", openmp), NULL);
+    enter_critical(&omp_critical, CALLER, REAL(by_address, openmp, GOMP_critical_start), NULL);
 }
 
-EXPORT void GOMP_critical_end(void)
+static void own_GOMP_critical_end(void)
 {
     release(&omp_critical, CALLER);
-    REAL(void(void), "GOMP_critical_end", openmp)();
+    REAL(void(void), openmp, GOMP_critical_end)();
 }
 
-EXPORT void GOMP_critical_name_start(void **name)
+static void own_GOMP_critical_name_start(void **name)
 {
-    enter_critical(name, CALLER, REAL(by_address, "GOMP_critical_name_start", openmp), name);
+    enter_critical(name, CALLER, REAL(by_address, openmp, GOMP_critical_name_start), name);
 }
 
-EXPORT void GOMP_critical_name_end(void **name)
+static void own_GOMP_critical_name_end(void **name)
 {
     release(name, CALLER);
-    REAL(by_address, "GOMP_critical_name_end", openmp)(name);
+    REAL(by_address, openmp, GOMP_critical_name_end)(name);
 }
+
+#define OWN_OF(function) [AT_##function] = {.name = #function, .own = (void *)own_##function},
+static struct other glib[GLIB_COUNT] = {EACH_OF_GLIB(OWN_OF)};
+static struct other openmp[OPENMP_COUNT] = {EACH_OF_OPENMP(OWN_OF)};
+static const char *const glib_names[] = {"libglib-2.0", NULL};
+static const char *const openmp_names[] = {"libgomp", "libomp", "libiomp5", NULL};
+
+struct other_library others[] = {{glib_names, glib, GLIB_COUNT}, {openmp_names, openmp, OPENMP_COUNT}};
+const uint32_t others_count = sizeof others / sizeof *others;

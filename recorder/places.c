@@ -520,12 +520,8 @@ uint32_t callers(struct caller caller, uint32_t wanted, uint32_t *found)
     search.wanted = wanted;
     search.found = found;
     search.count = search.libraries = 0;
-    if (!follow(caller, &search)) {
-        if (may_be_on_small_stack())
-            aside(look_far, &search);
-        else
-            look_far(&search);
-    }
+    if (!follow(caller, &search))
+        aside(look_far, &search);
     if (search.count == 0)
         found[search.count++] = search.libraries ? search.library[0] : place_at_pc(caller.pc);
     return search.count;
@@ -595,12 +591,17 @@ static _Unwind_Reason_Code look_at(struct _Unwind_Context *context, void *argume
 {
     struct look *look = argument;
     uintptr_t stack = _Unwind_GetCFA(context), pc = _Unwind_GetIP(context);
-    if (stack < look->stack) {
+    if (stack < look->stack || is_aside(stack)) {
         look->is_inside = pc >= (uintptr_t)OWN_BEGIN && pc < (uintptr_t)OWN_END;
         return _URC_NO_REASON;
     }
     look->is_left = stack > look->stack || !look->is_inside;
     return _URC_END_OF_STACK;
+}
+
+static void look_back(void *look)
+{
+    _Unwind_Backtrace(look_at, look);
 }
 
 /*
@@ -610,7 +611,7 @@ static _Unwind_Reason_Code look_at(struct _Unwind_Context *context, void *argume
 COLD bool call_goes_on(uintptr_t stack)
 {
     struct look look = {.stack = stack};
-    _Unwind_Backtrace(look_at, &look);
+    aside(look_back, &look);
     return !look.is_left;
 }
 

@@ -9,16 +9,40 @@
 #include "quick.h"
 
 #include <errno.h>
+#include <limits.h>
 #include <stdarg.h>
 #include <string.h>
 #include <unistd.h>
 
 extern char **environ;
 
+/* More of a program's name isn't told. */
+enum { NAME_MOST = 64 };
+
+/* The path without its folders, as far as it can be read: a program may hand anything to the kernel, which answers EFAULT. */
+static void copy_base(char to[NAME_MOST], const char *path)
+{
+    size_t length = 0;
+    bool is_new = true;
+    for (size_t at = 0; at < PATH_MAX; at++) {
+        bool is_seen = at > 0 && (uintptr_t)(path + at) % PAGE_BYTES != 0;
+        if ((!is_seen && !is_readable(path + at)) || !path[at])
+            break;
+        if (is_new)
+            length = 0;
+        is_new = path[at] == '/';
+        if (!is_new && length < NAME_MOST - 1)
+            to[length++] = path[at];
+    }
+    to[length] = '\0';
+}
+
 static void begins(const char *program)
 {
+    char name[NAME_MOST];
     start();
-    status_starts(program);
+    copy_base(name, program);
+    status_starts(name);
 }
 
 /* Where a call comes back, no program was started by it. */
@@ -95,13 +119,13 @@ EXPORT int execle(const char *path, const char *word, ...)
 
 EXPORT int fexecve(int file, char *const words[], char *const environment[])
 {
-    begins(words[0] ? words[0] : "?");
+    begins(is_readable(words) ? words[0] : NULL);
     return comes_back(real.fexecve(file, words, environment));
 }
 
 EXPORT int execveat(int folder, const char *path, char *const words[], char *const environment[], int flags)
 {
-    begins(*path ? path : "?");
+    begins(path);
     return comes_back(real.execveat(folder, path, words, environment, flags));
 }
 

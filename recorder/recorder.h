@@ -3,7 +3,7 @@
  * `record` makes a trace (command/). This file has what its parts share:
  *
  *   calls.c     the interposed calls of pthread, C11 and the C library; ways.h, what they share
- *   others.c    those of GLib and OpenMP
+ *   others.c    those of GLib and OpenMP, where the program has them; rebind.c puts them there
  *   singles.c   the orders of single locks
  *   errors.c    errors in the use of locks that aren't orders
  *   annotations.c  what a program tells of its own locks by witness.h
@@ -16,13 +16,16 @@
  *   waiters.c   threads that wait for a condition while they hold locks
  *   locks.c     the locks at their addresses, and their types
  *   blocks.c    the blocks of memory that they are in, where that is asked for; malloc/, its interposed calls
- *   aside.c     a stack of the recorder's own, for handlers that have a small one
+ *   aside.c     stacks of the recorder's own, since the program's may be small
  *   places.c    the callers of a call; objects.c finds their object, elf_symbols.c its symbols; sites.c, places by name
  *   stacks.c    the callers of what is written
  *   seats.c     seats, and the numbers of types, locks and places in a stream
  *   pairs.c     the pairs of types that the condensed stream tells of
  *   write.c     the lines, and why they are a legal history
+ *   words.c     words of others, which may have any bytes
  *   stream.c    the files that the lines stand in
+ *   pinned.c    mlockall, and which memory is the recorder's
+ *   reach.c     memory that may not be there
  *   status.c    which programs were started, what failed and which objects were loaded, where it outlives the process
  *   judge.h     who judges the lines, where these files are part of libwitness
  *
@@ -215,10 +218,11 @@ struct thread {
     uint32_t asked[STREAMS];     /* the number of the lock whose request is pending there, 0 for none */
     bool asks_for_a_time;        /* the request that was written last ends by itself */
     struct held few[HELD_FEW];
+    uintptr_t own_stack; /* where the stack of the recorder's own begins that it is on; 0 for none (aside.c) */
+    bool keeps_signals;  /* no handler runs on that one */
+    bool looks;          /* at what is loaded, at its next call: it has opened a library */
     uintptr_t other_stack; /* where its stack for handlers begins, as it was set last, and how long that is */
     size_t other_size;
-    bool is_aside; /* on a stack of the recorder's own */
-    bool looks;    /* at what is loaded, at its next call: it has opened a library */
     uint32_t serial; /* no other thread of this process has it; above SERIAL_BITS, how many threads it has made, 7 at most */
     uint32_t made; /* the place where the thread was made; 0 of the first one, or where that isn't known */
     uint32_t maker;   /* the thread that made it, as the kernel counts; 0 of the first one, or where that isn't known */
@@ -322,6 +326,7 @@ struct real {
     int (*sigaltstack)(const stack_t *, stack_t *);
     void (*free)(void *);
     int (*register_atfork)(void (*)(void), void (*)(void), void (*)(void), void *);
+    int (*mlockall)(int);
 };
 /* The stack pointer of the function's caller. */
 #define HERE ((uintptr_t)__builtin_frame_address(0) + 16)
@@ -352,17 +357,12 @@ extern _Atomic bool has_handlers; /* the program was given a handler of signals 
 extern _Atomic bool has_small_stacks; /* and one that has a stack of its own */
 
 /*
- * aside.c: calls the function with the argument, on a stack of the recorder's own where this thread is on a small one.
- * Where no handler has one, it is called at once.
+ * aside.c: calls the function with the argument, on a stack of the recorder's own: so of the program's it takes some hundred
+ * bytes, whatever the function does.
  */
 void aside(void (*function)(void *), void *argument);
-/* Whether a handler of signals runs on a stack that the program gave for that. */
-bool is_on_other_stack(void);
-
-static inline bool may_be_on_small_stack(void)
-{
-    return UNLIKELY(atomic_load_explicit(&has_small_stacks, memory_order_relaxed));
-}
+bool is_aside(uintptr_t stack); /* whether this thread's own stack has the address */
+void aside_forked(void);
 
 /* Nothing is recorded, and may never be: calls are passed on at once. */
 extern _Atomic bool asleep;
@@ -380,6 +380,7 @@ bool goes_far_inside(uintptr_t stack);
 bool recorder_enters(void);
 void recorder_leaves(void);
 void *table(size_t bytes);
+void table_goes(void *memory, size_t bytes);
 
 /* How a lock is asked for: by a call that may block, by one that doesn't, or by one that blocks for a time. */
 enum asking { ASKS, TRIES, ASKS_FOR_A_TIME };
@@ -557,6 +558,10 @@ void objects_look(void);
 /* Whether the object of an address can be asked for; else objects_look comes before. */
 bool objects_are_found(void);
 
+/* rebind.c */
+void others_come(void);    /* an object may come that needs a library of others.h */
+void others_rebound(void); /* the functions of those that have come are recorded from here on */
+
 /* stacks.c */
 extern uint32_t frames_shown; /* how many frames a stack has at most; with 1 there are no stacks */
 extern bool stacks_all;       /* what is held has its stack, too */
@@ -580,6 +585,7 @@ extern bool semaphores_are_locks;
 
 /* threads.c */
 extern _Atomic uint32_t threads_made_and_joined;
+extern _Atomic uint32_t threads_in_making; /* counted already, and maybe not there yet */
 
 void threads_forked(void);
 
@@ -588,7 +594,14 @@ bool singles_made(void);
 void singles_forked(void);
 void order_noted(struct request *request); /* before the real call, of a thread that holds something */
 bool order_is_under(const struct held *held, const struct request *request);
-void order_of_joined(pthread_t joined);    /* this thread has joined it */
+/* What is known of a thread before it is joined: its handle, and by what it is told from a later one of that handle. */
+struct joining {
+    pthread_t thread;
+    uint32_t made;  /* it was made when fewer had been made and joined; 0 where that can't be said */
+    uint32_t begun; /* lives that had begun */
+};
+struct joining order_joins(pthread_t thread);
+void order_of_joined(struct joining joining); /* this thread has joined it */
 
 /* errors.c */
 void errors_begin(void);
@@ -641,12 +654,18 @@ void write_type(int stream, struct type *type);
 void write_crowded(struct type *type); /* under the mutex, between lines */
 void write_init(int stream, struct thread *thread, struct lock *lock);
 
+/* words.c */
+/*
+ * Writes the word with %XX for each byte that would end it, and for %. Returns how long it is so; what has no room isn't
+ * written. No byte follows it.
+ */
+size_t word_escaped(const char *word, char *to, size_t room);
+
 /* stream.c */
 void put_text(int stream, const char *text);
 void put_number(int stream, uint64_t number);      /* behind a space, as the next two */
 void put_hexadecimal(int stream, uint64_t number);
-void put_name(int stream, const char *name);
-void put_word(int stream, const char *word); /* as put_name, with %XX for a byte that would end the field, and for % */
+void put_word(int stream, const char *word); /* as words.c has it; NO_NAME for an empty one */
 void stream_append(int stream, bool is_entry);
 bool stream_opens(int stream);
 bool stream_is_asked(int stream);
@@ -660,11 +679,21 @@ bool streams_made(void);
 void streams_forked(void);
 void streams_end(void);
 
+/* pinned.c */
+void own_memory(const void *from, size_t bytes); /* that is the recorder's, and not the program's */
+void own_memory_goes(const void *from);
+void own_object(void);
+
+/* reach.c */
+/* Whether the word that the address is in can be read; and whether so many bytes can. errno stays. */
+bool is_readable(const void *address);
+bool is_all_readable(const void *from, size_t bytes);
+
 /* status.c */
 void status_made(void);
 void status_lacks_memory(void); /* the recorder stays off in this process */
 void status_forked(void);
-void status_starts(const char *program);
+void status_starts(const char *program); /* its name, without folders */
 void status_starts_not(void);
 void status_started(pid_t process, const char *program);
 void status_object(const char *path);

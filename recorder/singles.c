@@ -39,9 +39,11 @@ enum { LIVES = 256 };
 struct order *single_orders;
 static struct life {
     pthread_t handle;
-    uint32_t thread; /* 0 where it isn't taken */
+    uint32_t thread;  /* 0 where it isn't taken */
+    uint32_t number;  /* among all that there ever were */
+    uint32_t made_at; /* UINT32_MAX where that isn't known */
 } lives[LIVES];
-static _Atomic uint32_t lives_kept;
+static _Atomic uint32_t lives_kept, lives_begun;
 static _Atomic bool is_over; /* no more orders are told of */
 
 bool singles_made(void)
@@ -57,6 +59,7 @@ void singles_forked(void)
     for (uint32_t i = 0; i < LIVES; i++)
         lives[i].thread = 0;
     atomic_store(&lives_kept, 0);
+    atomic_store(&lives_begun, 0);
     atomic_store(&is_over, false);
     self.has_orders = false;
     self.maker = self.grand = 0;
@@ -105,28 +108,57 @@ static void begin_life(struct thread *thread)
     write_life(thread);
     for (uint32_t i = 0; i < LIVES; i++) {
         if (lives[i].thread == 0) {
-            lives[i] = (struct life){pthread_self(), (uint32_t)syscall(SYS_gettid)};
+            lives[i] = (struct life){pthread_self(), (uint32_t)syscall(SYS_gettid), atomic_fetch_add(&lives_begun, 1),
+                thread->maker ? thread->made_at : UINT32_MAX};
             atomic_fetch_add(&lives_kept, 1);
             return;
         }
     }
 }
 
-void order_of_joined(pthread_t joined)
+struct joining order_joins(pthread_t thread)
 {
-    uint32_t at = atomic_fetch_add(&threads_made_and_joined, 1);
+    /* In this sequence: what is made while nobody makes a thread has a greater number. */
+    uint32_t made = atomic_load(&threads_made_and_joined);
+    return (struct joining){thread, atomic_load(&threads_in_making) == 0 ? made : 0, atomic_load(&lives_begun)};
+}
+
+/*
+ * Whether it is the thread that was joined. As soon as that one is, a new thread may have its handle. The life of a new one
+ * had not begun before the join. If the other's hadn't either, it is known by when it was made.
+ */
+static bool is_joined(const struct life *life, const struct joining *joining)
+{
+    return life->thread != 0 && pthread_equal(life->handle, joining->thread)
+        && (life->number < joining->begun || life->made_at < joining->made);
+}
+
+struct joined {
+    struct joining joining;
+    uint32_t at;
+};
+
+static void end_lives(void *argument)
+{
+    const struct joined *it = argument;
+    if (!recorder_enters())
+        return;
+    for (uint32_t i = 0; i < LIVES; i++) {
+        if (is_joined(&lives[i], &it->joining)) {
+            write_joined(lives[i].thread, it->at);
+            lives[i].thread = 0;
+            atomic_fetch_sub(&lives_kept, 1);
+        }
+    }
+    recorder_leaves();
+}
+
+void order_of_joined(struct joining joining)
+{
+    struct joined it = {joining, atomic_fetch_add(&threads_made_and_joined, 1)};
     if (LIKELY(atomic_load(&lives_kept) == 0) || !goes_far_inside(HERE))
         return;
-    if (recorder_enters()) {
-        for (uint32_t i = 0; i < LIVES; i++) {
-            if (lives[i].thread != 0 && pthread_equal(lives[i].handle, joined)) {
-                write_joined(lives[i].thread, at);
-                lives[i].thread = 0;
-                atomic_fetch_sub(&lives_kept, 1);
-            }
-        }
-        recorder_leaves();
-    }
+    aside(end_lives, &it);
     goes_outside(&self);
 }
 
@@ -173,11 +205,22 @@ static uint64_t way_of(const struct request *request)
     return under * UNDER_IT ^ (request->ends_wait ? AS_A_WAIT_ENDS : request->timed ? FOR_A_TIME : 0);
 }
 
-void order_noted(struct request *request)
+static uint64_t locks_of(const struct request *request)
 {
-    uint64_t locks = locks_with(locks_held(request->thread), request->lock, request->mode) ^ way_of(request);
+    return locks_with(locks_held(request->thread), request->lock, request->mode) ^ way_of(request);
+}
+
+static void note_aside(void *argument)
+{
+    struct request *request = argument;
     if (request->node == NODE_UNKNOWN)
         note_end();
-    else if (!order_is_known(locks, request->thread->serial))
-        note(request, locks);
+    else
+        note(request, locks_of(request));
+}
+
+void order_noted(struct request *request)
+{
+    if (request->node == NODE_UNKNOWN ? !atomic_load(&is_over) : !order_is_known(locks_of(request), request->thread->serial))
+        aside(note_aside, request);
 }

@@ -90,12 +90,14 @@ static const struct {
     {offsetof(struct real, sysv_signal), "__sysv_signal", NULL},
     {offsetof(struct real, sigset), "sigset", NULL},
     {offsetof(struct real, sigaltstack), "sigaltstack", NULL},
+    {offsetof(struct real, mlockall), "mlockall", NULL},
 };
 
 extern char *program_invocation_short_name;
 static pthread_mutex_t mutex = PTHREAD_MUTEX_INITIALIZER;
 static _Atomic bool recording;
-/* Of the thread that is inside: what it had outside. */
+/* Of the thread that is inside: what it had outside. Where it is aside, it isn't cancelled in any case. */
+enum { CANCELLATION_KEPT = -1 };
 static int errno_outside, cancellation_outside;
 static sigset_t signals_outside;
 static bool signals_wait;
@@ -122,7 +124,16 @@ static void find_real_functions(void)
 void *table(size_t bytes)
 {
     void *memory = mmap(NULL, bytes, PROT_READ | PROT_WRITE, MAP_PRIVATE | MAP_ANONYMOUS | MAP_NORESERVE, -1, 0);
-    return memory == MAP_FAILED ? NULL : memory;
+    if (memory == MAP_FAILED)
+        return NULL;
+    own_memory(memory, bytes);
+    return memory;
+}
+
+void table_goes(void *memory, size_t bytes)
+{
+    own_memory_goes(memory);
+    munmap(memory, bytes);
 }
 
 static bool settings_read(void)
@@ -162,7 +173,9 @@ enum { ROOM_BYTES = 128 << 20 };
 static bool has_room(void)
 {
     void *room = table(ROOM_BYTES);
-    return room && munmap(room, ROOM_BYTES) == 0;
+    if (room)
+        table_goes(room, ROOM_BYTES);
+    return room != NULL;
 }
 
 /* False where there is no memory. Then the recorder stays off. */
@@ -187,6 +200,17 @@ static void say_started(void)
     }
 }
 
+/* Those of faults come as they do without the recorder: the program may see to memory of its own by them. */
+static sigset_t kept_out;
+
+static void choose_signals(void)
+{
+    static const int faults[] = {SIGSEGV, SIGBUS, SIGFPE, SIGILL, SIGTRAP};
+    sigfillset(&kept_out);
+    for (size_t i = 0; i < sizeof faults / sizeof *faults; i++)
+        sigdelset(&kept_out, faults[i]);
+}
+
 /* Makes all that recording needs, where the environment or the program wants it, and begins. Once in a process. */
 static void awake(void)
 {
@@ -195,6 +219,8 @@ static void awake(void)
         return;
     /* The words that it was started by may be overwritten later. */
     snprintf(program_name, sizeof program_name, "%s", program_invocation_short_name);
+    choose_signals();
+    own_object();
     status_made();
     if (!tables_made()) {
         semaphores_are_locks = false;
@@ -225,13 +251,20 @@ void start(void)
 
 /*
  * Whether the call that the thread is inside of was left: by a jump out of a handler of signals, or a cancellation. Not
- * where the thread is on another stack than that call was.
+ * where the caller is a handler on another stack than that call was.
  */
 static bool has_left(const struct thread *thread, uintptr_t stack)
 {
-    if (thread->state == STARTING || thread->is_aside || is_on_other_stack())
+    if (thread->state == STARTING || is_aside(stack))
+        return false;
+    if (thread->other_size && stack - thread->other_stack <= thread->other_size)
         return false;
     return stack >= thread->state || !call_goes_on(thread->state);
+}
+
+static void leave(void *thread)
+{
+    write_left(thread);
 }
 
 /*
@@ -243,7 +276,7 @@ COLD bool thread_opens(struct thread *thread, uintptr_t stack)
     if (thread->state > OPEN) {
         if (!has_left(thread, stack))
             return false;
-        write_left(thread);
+        aside(leave, thread);
     }
     start();
     if (!atomic_load(&recording))
@@ -294,14 +327,14 @@ bool recorder_enters(void)
         stops_in_child();
     if (!atomic_load(&recording))
         return false;
-    int cancellation;
-    sigset_t all, signals;
-    bool wait = atomic_load_explicit(&has_handlers, memory_order_relaxed);
-    if (wait) {
-        sigfillset(&all);
-        pthread_sigmask(SIG_BLOCK, &all, &signals);
-    }
-    pthread_setcancelstate(PTHREAD_CANCEL_DISABLE, &cancellation);
+    int cancellation = CANCELLATION_KEPT;
+    sigset_t signals;
+    bool is_apart = is_aside((uintptr_t)__builtin_frame_address(0));
+    bool wait = atomic_load_explicit(&has_handlers, memory_order_relaxed) && !(is_apart && self.keeps_signals);
+    if (wait)
+        pthread_sigmask(SIG_BLOCK, &kept_out, &signals);
+    if (!is_apart)
+        pthread_setcancelstate(PTHREAD_CANCEL_DISABLE, &cancellation);
     real.mutex_lock(&mutex);
     errno_outside = before;
     cancellation_outside = cancellation;
@@ -319,7 +352,8 @@ void recorder_leaves(void)
     if (wait)
         signals = signals_outside;
     real.mutex_unlock(&mutex);
-    pthread_setcancelstate(cancellation, NULL);
+    if (cancellation != CANCELLATION_KEPT)
+        pthread_setcancelstate(cancellation, NULL);
     if (wait)
         pthread_sigmask(SIG_SETMASK, &signals, NULL);
     judge_looks();
@@ -341,15 +375,9 @@ static void fork_ends_in_parent(void)
         recorder_leaves();
 }
 
-/* The child begins a trace of its own, in which its one thread holds what it held, and nothing is known. */
-static void fork_ends_in_child(void)
+static void begin_child(void *unused)
 {
-    if (!forks) {
-        atomic_store(&recording, false);
-        return;
-    }
-    *alive = 1;
-    life++;
+    (void)unused;
     seats_forked();
     pairs_forked();
     status_forked();
@@ -360,6 +388,19 @@ static void fork_ends_in_child(void)
     singles_forked();
     threads_forked();
     judge_forked();
+}
+
+/* The child begins a trace of its own, in which its one thread holds what it held, and nothing is known. */
+static void fork_ends_in_child(void)
+{
+    if (!forks) {
+        atomic_store(&recording, false);
+        return;
+    }
+    *alive = 1;
+    life++;
+    aside_forked();
+    aside(begin_child, NULL);
     recorder_leaves();
 }
 
@@ -404,6 +445,7 @@ bool recorder_wakes(void)
         if (atomic_load(&recording)) {
             look_round();
             atomic_store(&asleep, false);
+            others_rebound();
         }
         self.state = UNREADY;
     }
@@ -414,10 +456,12 @@ bool recorder_wakes(void)
 __attribute__((constructor)) static void loaded(void)
 {
     start();
-    if (atomic_load(&recording))
+    if (atomic_load(&recording)) {
         look_round();
-    else
+        others_rebound();
+    } else {
         recorder_wakes();
+    }
     fork_is_watched();
 }
 

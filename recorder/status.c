@@ -4,6 +4,8 @@
  * is, whether that has loaded the recorder, and what failed. One that executes another program goes on in the same slot,
  * and there it says beforehand which program it starts: a slot whose program hasn't loaded the recorder is one of which
  * nothing is known. Below the slots stand the objects that processes had loaded, each once.
+ *
+ * Any process of the run may cut the file. What isn't there any more isn't written to.
  */
 #include "recorder.h"
 
@@ -48,6 +50,12 @@ static bool has_size(int file)
     return posix_fallocate(file, 0, STATUS_BYTES) == 0;
 }
 
+static void put_at(size_t at, const char *text, size_t length)
+{
+    if (status && is_all_readable(status + at, length))
+        memcpy(status + at, text, length);
+}
+
 /*
  * The slot of the process of that number, or a free one for it; NULL where there is none. Slots aren't given back, so
  * that two who look for one number find one slot.
@@ -62,6 +70,8 @@ static char *slot_of(pid_t process)
     for (uint32_t i = 0; status && i < SLOTS; i++) {
         char *slot = status + ((uint32_t)process + i) % SLOTS * SLOT_BYTES;
         uint64_t found = 0;
+        if (!is_readable(slot))
+            return NULL;
         if (__atomic_compare_exchange_n((uint64_t *)(void *)slot, &found, mark, false, __ATOMIC_SEQ_CST,
                 __ATOMIC_SEQ_CST)
             || found == mark) {
@@ -69,8 +79,7 @@ static char *slot_of(pid_t process)
             return slot;
         }
     }
-    if (status)
-        memcpy(status + FULL_AT, full, sizeof full - 1);
+    put_at(FULL_AT, full, sizeof full - 1);
     return NULL;
 }
 
@@ -126,6 +135,7 @@ void status_made(void)
         void *mapped = mmap(NULL, STATUS_BYTES, PROT_READ | PROT_WRITE, MAP_SHARED, file, 0);
         if (mapped != MAP_FAILED) {
             status = mapped;
+            own_memory(status, STATUS_BYTES);
             take_slot();
         }
     }
@@ -159,7 +169,7 @@ void status_starts(const char *program)
     char *slot = slot_of(getpid());
     if (!slot)
         return;
-    write_name(slot + STARTED_AT, " " STATUS_STARTED " ", base_of(program));
+    write_name(slot + STARTED_AT, " " STATUS_STARTED " ", program);
     memcpy(slot + LOADED_AT, not_loaded, sizeof not_loaded - 1);
 }
 
@@ -193,14 +203,29 @@ static bool is_new(const char *word, const char *path)
     uint64_t hash = hash_of(word, path), *hashes = (void *)(status + HASHES_AT);
     for (uint32_t i = 0; i < HASHES; i++) {
         uint64_t found = 0;
+        if (!is_readable(&hashes[(hash + i) % HASHES]))
+            return false;
         if (__atomic_compare_exchange_n(&hashes[(hash + i) % HASHES], &found, hash, false, __ATOMIC_SEQ_CST,
                 __ATOMIC_SEQ_CST))
             return true;
         if (found == hash)
             return false;
     }
-    memcpy(status + FULL_OBJECTS_AT, full_objects, sizeof full_objects - 1);
+    put_at(FULL_OBJECTS_AT, full_objects, sizeof full_objects - 1);
     return false;
+}
+
+/* Room for so many bytes among the names of objects, NULL where there is none. */
+static char *object_room(size_t bytes)
+{
+    uint64_t *used = (void *)(status + OBJECTS_AT);
+    if (!is_readable(used))
+        return NULL;
+    size_t at = OBJECTS_AT + sizeof *used + __atomic_fetch_add(used, bytes, __ATOMIC_SEQ_CST);
+    if (at + bytes <= FULL_AT)
+        return is_all_readable(status + at, bytes) ? status + at : NULL;
+    put_at(FULL_OBJECTS_AT, full_objects, sizeof full_objects - 1);
+    return NULL;
 }
 
 /* Notes an object in a line that begins with the word, once. */
@@ -208,16 +233,13 @@ static void note_object(const char *word, const char *path)
 {
     if (!status || !is_new(word, path))
         return;
-    uint64_t *used = (void *)(status + OBJECTS_AT);
-    size_t length = strlen(path), head = strlen(word), whole = head + length + 1;
-    size_t at = OBJECTS_AT + sizeof *used + __atomic_fetch_add(used, whole, __ATOMIC_SEQ_CST);
-    if (at + whole > FULL_AT) {
-        memcpy(status + FULL_OBJECTS_AT, full_objects, sizeof full_objects - 1);
+    size_t length = word_escaped(path, NULL, 0), head = strlen(word), whole = head + length + 1;
+    char *room = object_room(whole);
+    if (!room)
         return;
-    }
-    memcpy(status + at, word, head);
-    memcpy(status + at + head, path, length);
-    status[at + whole - 1] = '\n';
+    memcpy(room, word, head);
+    word_escaped(path, room + head, length);
+    room[whole - 1] = '\n';
 }
 
 /* It is loaded. Under the mutex. */
@@ -251,6 +273,6 @@ void count_digits(char *digits)
 /* Under the mutex. */
 void count_failure(enum failure what)
 {
-    if (counts[what])
+    if (counts[what] && is_readable(counts[what]))
         count_digits(counts[what]);
 }

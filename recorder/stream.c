@@ -17,7 +17,8 @@
 #include <sys/stat.h>
 #include <unistd.h>
 
-enum { PATH_MOST = 512, LINE_MOST = 1024, PIECE = 1 << 16, ATTEMPTS_MOST = 100 };
+/* A line has room for a path of 4,096 bytes, each of which is escaped. */
+enum { PATH_MOST = 512, LINE_MOST = 1 << 14, PIECE = 1 << 16, ATTEMPTS_MOST = 100 };
 
 #ifndef MADV_POPULATE_WRITE
 #define MADV_POPULATE_WRITE 23
@@ -40,6 +41,7 @@ static struct stream {
     enum failure cause; /* why it has ended, or the file wasn't made */
     char line[LINE_MOST];
     size_t length;
+    bool is_long; /* the line doesn't fit */
 } streams[STREAMS] = {
     [CONDENSED] = {.suffix = "", .window = 1 << 20},
     [FULL] = {.suffix = ".full", .window = 1 << 22},
@@ -51,8 +53,10 @@ static const char *const missed_names[MISSES] = {EACH_MISSED(NAME_OF)};
 
 static void put(struct stream *stream, const char *from, size_t length)
 {
-    if (length > LINE_MOST - stream->length)
-        length = LINE_MOST - stream->length;
+    if (length > LINE_MOST - stream->length) {
+        stream->is_long = true;
+        return;
+    }
     memcpy(stream->line + stream->length, from, length);
     stream->length += length;
 }
@@ -84,24 +88,15 @@ void put_hexadecimal(int stream, uint64_t number)
     put_digits(stream, number, 16);
 }
 
-void put_name(int stream, const char *name)
+void put_word(int number, const char *word)
 {
-    put_text(stream, " ");
-    put_text(stream, *name ? name : NO_NAME);
-}
-
-void put_word(int stream, const char *word)
-{
-    bool is_dash = strcmp(word, NO_NAME) == 0;
-    put_text(stream, *word ? " " : " " NO_NAME);
-    for (; *word; word++) {
-        unsigned char byte = (unsigned char)*word;
-        char escape[] = {ESCAPE, "0123456789abcdef"[byte >> 4], "0123456789abcdef"[byte & 15]};
-        if (byte > ' ' && byte != ESCAPE && byte != 127 && !is_dash)
-            put(&streams[stream], word, 1);
-        else
-            put(&streams[stream], escape, sizeof escape);
-    }
+    struct stream *stream = &streams[number];
+    put_text(number, *word ? " " : " " NO_NAME);
+    size_t room = LINE_MOST - stream->length, length = word_escaped(word, stream->line + stream->length, room);
+    if (length > room)
+        stream->is_long = true;
+    else
+        stream->length += length;
 }
 
 /* A file that grows over this limit ends the program. */
@@ -146,10 +141,11 @@ static bool window_opens(struct stream *stream, int flags)
     close(file);
     if (window == MAP_FAILED)
         return false;
+    own_memory(window, stream->window);
     if (stream->offset == 0)
         stream->first = window;
     else if (stream->end - stream->window != stream->first)
-        munmap(stream->end - stream->window, stream->window);
+        table_goes(stream->end - stream->window, stream->window);
     stream->at = stream->ready = window;
     stream->end = stream->at + stream->window;
     stream->offset = size;
@@ -200,11 +196,21 @@ static bool grows(struct stream *stream)
     return given;
 }
 
+/* The line that was put isn't written: cut, it would be another one. */
+static COLD void leave_out(int number)
+{
+    streams[number].is_long = false;
+    streams[number].length = 0;
+    count_missed(number, MISSED_LONG);
+}
+
 /* The line that was put goes to the file. Where there is no room any more, the stream ends with what it has. */
 void stream_append(int number, bool is_entry)
 {
     struct stream *stream = &streams[number];
     const char *from = stream->line;
+    if (UNLIKELY(stream->is_long))
+        leave_out(number);
     size_t left = name_at ? stream->length : 0;
     while (left > 0 && !stream->ended) {
         size_t room = (size_t)(stream->ready - stream->at);
@@ -265,8 +271,8 @@ static void begin(int number)
         stream->counts[what] = stream->at + stream->length;
         put_text(number, "0000000000");
     }
-    put_text(number, "\n" WORD_PROGRAM " ");
-    put_text(number, program_name);
+    put_text(number, "\n" WORD_PROGRAM);
+    put_word(number, program_name);
     put_text(number, "\n");
     stream_append(number, false);
 }
@@ -362,8 +368,8 @@ static void unmap(struct stream *stream)
     if (!stream->first)
         return;
     if (stream->first != stream->end - stream->window)
-        munmap(stream->first, stream->window);
-    munmap(stream->end - stream->window, stream->window);
+        table_goes(stream->first, stream->window);
+    table_goes(stream->end - stream->window, stream->window);
     if (!all_slow)
         mmap(asked_page, PAGE_BYTES, PROT_READ | PROT_WRITE, MAP_PRIVATE | MAP_ANONYMOUS | MAP_FIXED, -1, 0);
     stream->at = stream->ready = stream->end = stream->first = NULL;
@@ -378,6 +384,7 @@ void streams_forked(void)
         unmap(stream);
         stream->entries = stream->attempts = 0;
         stream->length = 0;
+        stream->is_long = false;
         stream->begun = stream->ended = false;
     }
     files_open();

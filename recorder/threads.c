@@ -13,6 +13,7 @@
 
 /* In their order: so it is known which thread was joined before another one was made. */
 _Atomic uint32_t threads_made_and_joined;
+_Atomic uint32_t threads_in_making;
 
 /* Threads that are made and haven't begun. Where all of these are taken, a thread's maker isn't known. */
 enum { BEGINNINGS = 1024 };
@@ -76,6 +77,7 @@ static struct beginning *taken_by(struct caller caller, void *argument)
         found->maker = (uint32_t)syscall(SYS_gettid);
         found->grand = self.maker;
         found->maker_at = self.made_at;
+        atomic_fetch_add(&threads_in_making, 1);
         found->at = atomic_fetch_add(&threads_made_and_joined, 1);
         found->argument = argument;
         if (self.serial >> SERIAL_BITS < ORDER_TELLINGS - 1)
@@ -84,6 +86,14 @@ static struct beginning *taken_by(struct caller caller, void *argument)
     makes_at = 0;
     goes_outside(&self);
     return found;
+}
+
+/* The real call has returned. */
+static void is_made(struct beginning *beginning, bool succeeded)
+{
+    atomic_fetch_sub(&threads_in_making, 1);
+    if (!succeeded)
+        atomic_store(&beginning->taken, false);
 }
 
 EXPORT int pthread_create(
@@ -95,8 +105,7 @@ EXPORT int pthread_create(
         return real.create(thread, attributes, routine, argument);
     beginning->routine.posix = routine;
     int answer = real.create(thread, attributes, begin_posix, beginning);
-    if (answer != 0)
-        atomic_store(&beginning->taken, false);
+    is_made(beginning, answer == 0);
     return answer;
 }
 
@@ -108,26 +117,27 @@ EXPORT int thrd_create(thrd_t *thread, thrd_start_t routine, void *argument)
         return real.c11_create(thread, routine, argument);
     beginning->routine.c11 = routine;
     int answer = real.c11_create(thread, begin_c11, beginning);
-    if (answer != thrd_success)
-        atomic_store(&beginning->taken, false);
+    is_made(beginning, answer == thrd_success);
     return answer;
 }
 
 EXPORT int pthread_join(pthread_t thread, void **answered)
 {
     start();
+    struct joining joining = order_joins(thread);
     int answer = real.join(thread, answered);
     if (answer == 0)
-        order_of_joined(thread);
+        order_of_joined(joining);
     return answer;
 }
 
 EXPORT int thrd_join(thrd_t thread, int *answered)
 {
     start();
+    struct joining joining = order_joins(thread);
     int answer = real.c11_join(thread, answered);
     if (answer == thrd_success)
-        order_of_joined(thread);
+        order_of_joined(joining);
     return answer;
 }
 
@@ -136,4 +146,5 @@ void threads_forked(void)
 {
     for (uint32_t i = 0; i < BEGINNINGS; i++)
         atomic_store_explicit(&beginnings[i].taken, false, memory_order_relaxed);
+    atomic_store(&threads_in_making, 0);
 }

@@ -73,7 +73,7 @@ void write_thread(int stream, const struct thread *thread)
     uint32_t made = place_number(stream, thread->made);
     put_text(stream, WORD_THREAD);
     put_number(stream, thread->seat[stream]);
-    put_name(stream, name);
+    put_word(stream, name);
     put_number(stream, made);
     put_number(stream, (uint64_t)thread_number(thread));
     put_text(stream, "\n");
@@ -608,14 +608,14 @@ static void write_object(int stream, uint32_t object)
     *written = 1;
     put_text(stream, WORD_OBJECT);
     put_number(stream, object);
-    put_name(stream, object_path(object));
+    put_word(stream, object_path(object));
     put_text(stream, "\n");
     stream_append(stream, false);
     if (!object_called(object))
         return;
     put_text(stream, WORD_CALLED);
     put_number(stream, object);
-    put_name(stream, object_called(object));
+    put_word(stream, object_called(object));
     put_text(stream, "\n");
     stream_append(stream, false);
 }
@@ -679,7 +679,7 @@ void write_place(int stream, uint32_t place)
     put_number(stream, place);
     put_number(stream, written->object);
     put_hexadecimal(stream, (written->object ? written->offset : written->pc) - 1);
-    put_name(stream, written->name);
+    put_word(stream, written->name);
     put_hexadecimal(stream, *written->name ? written->within - 1 : 0);
     put_text(stream, "\n");
     stream_append(stream, false);
@@ -696,9 +696,9 @@ static void put_variable(int stream, uint32_t object, uintptr_t address)
     const char *name = object_symbol(object, address, false, &from, &size);
     put_number(stream, object);
     put_hexadecimal(stream, object_offset(object, address));
-    put_name(stream, name);
+    put_word(stream, name);
     put_hexadecimal(stream, address - from);
-    put_name(stream, object_symbol_file(object, address));
+    put_word(stream, object_symbol_file(object, address));
 }
 
 /* `crowded NUMBER`: the type of that number counts as one without an offset. */

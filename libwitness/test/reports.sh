@@ -82,3 +82,34 @@ if wanted debugger; then
         echo "left out  debugger: there is no gdb"
     fi
 fi
+
+# A thread's name is text, whatever its bytes are.
+if wanted threadname; then
+    compile threadname $linked
+    WITNESS=1 ./threadname 2>err && told <err | grep -qx 'asked by thread N (?\[31m?witness:x):' && ! LC_ALL=C grep -q '[^ -~]' err
+    tell threadname "a name with bytes that a terminal takes for its own" $?
+fi
+
+# What a report takes isn't taken of the stack of the thread that asks: of that it is some hundred bytes.
+if wanted stacks; then
+    compile coroutines $linked -Wl,-z,now
+    for way in "" handlers onstack thread; do
+        ./coroutines 1536 $way >plain 2>err && WITNESS=1 WITNESS_LOG=log.%p ./coroutines 1536 $way >out 2>err && cmp plain out &&
+            grep -q '^lock order reversal:$' log.[0-9]* && grep -q '^asked by thread ' log.[0-9]*
+        tell stacks "a report on a stack of 1,536 bytes${way:+ ($way)}" $?
+        rm -f log.[0-9]*
+    done
+fi
+
+# What a program looks for by name is what it finds without the library; what comes later is watched.
+if wanted optional; then
+    compile optional $linked -ldl
+    ./optional >plain && WITNESS=1 ./optional >out 2>err && grep -qx 'weak: absent absent absent' plain && cmp plain out && [ ! -s err ]
+    tell optional "names of GLib and OpenMP, where these aren't there" $?
+    if "${CC:-cc}" -g -fPIC -shared -DLIBRARY -o libneeds.so optional.c -l:libglib-2.0.so.0 2>/dev/null; then
+        WITNESS=1 ./optional "$PWD/libneeds.so" >out 2>err && grep -q '^lock order reversal:$' err
+        tell optional "a library that brings GLib while the program runs" $?
+    else
+        echo "left out  optional: GLib isn't there"
+    fi
+fi

@@ -51,14 +51,13 @@ if wanted names; then
     nm -D --defined-only "$lib/libwitness.so.1" | awk '$2 != "A" { print $3 }' | sort >had
     grep '@@WITNESS_1$' had | grep -v '^witness_' >others
     grep -v '@' had | sed 's/$/ /' >interposed
-    # What it interposes are names of the C library's, of GLib's mutexes and of OpenMP's locks.
-    others_locks='^\(g_mutex_\|g_cond_\|omp_\|GOMP_critical_\)'
+    # What it interposes are names of the C library's: by those of GLib and OpenMP a program may look for these.
     nm -D --defined-only "$("${CC:-cc}" -print-file-name=libc.so.6)" | awk '{ sub(/@.*/, "", $3); print $3 " " }' | sort -u >libc
-    comm -23 interposed libc | grep -v "$others_locks" >>others
+    comm -23 interposed libc >>others
     [ -s interposed ] && grep -q '^witness_start@@WITNESS_1$' had && [ ! -s others ] || { cat others; false; }
     tell names "has its own calls, by version, and what it interposes" $?
     nm -g --defined-only "$lib/libwitness.a" | awk 'NF == 3 { print $3 }' | sort | grep -v '^witness_' | sed 's/$/ /' |
-        comm -23 - libc | grep -v "$others_locks" >others
+        comm -23 - libc >others
     [ ! -s others ] || { cat others; false; }
     tell names "nor has the other library" $?
     for header in libwitness/libwitness.h recorder/witness.h; do

@@ -16,11 +16,13 @@
 
 extern char **environ;
 
-/* -static-libgcc: the unwinder is part of the object, and the program gets no further library. */
+/*
+ * -static-libgcc: the unwinder is part of the object, and the program gets no further library. -z now: nothing is looked for
+ * in the middle of a call, which would take kilobytes of the program's stack, or memory in a call that takes some.
+ */
 static const char *const for_library[] = {"-std=c11", "-D_GNU_SOURCE", "-O2", "-g", "-fPIC", "-shared", "-fexceptions",
-    "-fvisibility=hidden", "-Wall", "-Wextra", "-pthread", "-static-libgcc", NULL};
-/* -z now: nothing is looked for in the middle of a call that takes memory. */
-static const char *const for_memory[] = {"-fno-builtin", "-Wl,-z,now", NULL};
+    "-fvisibility=hidden", "-Wall", "-Wextra", "-pthread", "-static-libgcc", "-Wl,-z,now", NULL};
+static const char *const for_memory[] = {"-fno-builtin", NULL};
 static const char *const for_command[] = {"-std=c11", "-D_GNU_SOURCE", "-O2", "-g", "-Wall", "-Wextra", NULL};
 static const char *const for_sanitized[] = {"-O1", "-fsanitize=address,undefined", "-fno-sanitize-recover=all",
     "-fno-omit-frame-pointer", "-fno-optimize-sibling-calls", NULL};

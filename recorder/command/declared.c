@@ -34,30 +34,11 @@ static void *reach(void *list, size_t *count, size_t *room, uint32_t number, siz
     return list;
 }
 
-static const char *text_of(const struct declared *declared, struct field field)
-{
-    return texts_copy(declared->texts, field.at, field.length);
-}
-
-static bool has_name(const struct line *line, unsigned number)
-{
-    return number < line->count && !field_is(line, number, NO_NAME);
-}
-
-/* The field as a name, NULL where it stands for none. */
-static const char *name_at(const struct declared *declared, const struct line *line, unsigned number)
-{
-    return has_name(line, number) ? text_of(declared, line->field[number]) : NULL;
-}
-
-/* As name_at, of a word that has escapes. */
+/* The field as a word of others, NULL where it stands for none. */
 static const char *word_at(const struct declared *declared, const struct line *line, unsigned number)
 {
-    if (!has_name(line, number))
-        return NULL;
-    char *word = copy_bytes(line->field[number].at, line->field[number].length);
-    undo_escapes(word);
-    const char *kept = texts_copy(declared->texts, word, strlen(word));
+    char *word = field_word(line, number);
+    const char *kept = word ? texts_copy(declared->texts, word, strlen(word)) : NULL;
     free(word);
     return kept;
 }
@@ -83,14 +64,14 @@ static void read_object(struct declared *declared, const struct line *line)
 {
     struct object *object = object_in(declared, line);
     if (object)
-        object->path = text_of(declared, field_rest(line, 2));
+        object->path = word_at(declared, line, 2);
 }
 
 static void read_called(struct declared *declared, const struct line *line)
 {
     struct object *object = object_in(declared, line);
     if (object)
-        object->called = text_of(declared, field_rest(line, 2));
+        object->called = word_at(declared, line, 2);
 }
 
 static void read_blind(struct declared *declared, const struct line *line)
@@ -113,19 +94,14 @@ static struct place *new_place(struct declared *declared, const struct line *lin
     return &declared->place[number];
 }
 
-/* A function's name may have spaces. */
 static void read_place(struct declared *declared, const struct line *line)
 {
-    struct place read = {.kind = PLACE_CALL}, *place;
+    struct place read = {.kind = PLACE_CALL, .function = word_at(declared, line, 4)}, *place;
     if (!field_number(line, 2, OBJECT_MOST - 1, &read.object) || !field_hexadecimal(line, 3, &read.offset)) {
         declared->is_odd = true;
         return;
     }
-    struct field function = field_rest(line, 4);
-    if (line->count > 5 && field_hexadecimal(line, line->count - 1, &read.within))
-        function.length = (size_t)(line->field[line->count - 2].at - function.at) + line->field[line->count - 2].length;
-    if (function.length > 0 && !(function.length == 1 && *function.at == '-'))
-        read.function = text_of(declared, function);
+    field_hexadecimal(line, 5, &read.within);
     place = new_place(declared, line);
     if (place)
         *place = read;
@@ -196,9 +172,9 @@ bool read_variable(const struct declared *declared, const struct line *line, uns
     if (!field_number(line, field, OBJECT_MOST - 1, &variable->object) ||
         !field_hexadecimal(line, field + 1, &variable->offset))
         return false;
-    variable->name = name_at(declared, line, field + 2);
+    variable->name = word_at(declared, line, field + 2);
     field_hexadecimal(line, field + 3, &variable->within);
-    variable->file = name_at(declared, line, field + 4);
+    variable->file = word_at(declared, line, field + 4);
     return true;
 }
 
@@ -301,7 +277,7 @@ static void read_init(struct declared *declared, const struct line *line)
     }
     struct type *type = type_at(declared, number);
     if (!type->class)
-        type->class = text_of(declared, line->field[2]);
+        type->class = texts_copy(declared->texts, line->field[2].at, line->field[2].length);
     if (line->count > 6 && read_variable(declared, line, 6, &variable) && variable.name)
         symbols_want(declared->symbols, variable.name);
 }

@@ -119,8 +119,9 @@ static void read_stream(struct run *run, const struct recording *recording, stru
     struct process process = {.run = run, .recording = recording, .is_followed = true};
     char *path = say_text("%s/%s", run->records, recording->name);
     bool is_due = deadlock_is_due(&followed->deadlock, microseconds());
-    if ((is_due || has_grown(path, followed->length)) && stream_open(&process.stream, path, true)) {
-        if ((is_due || process.stream.length > followed->length) && process.stream.length <= BYTES_MOST
+    if ((is_due || has_grown(path, followed->length)) && stream_room(path) <= BYTES_MOST
+        && stream_open(&process.stream, path, true)) {
+        if ((is_due || process.stream.length > followed->length)
             && version_is_own(process.stream.bytes, process.stream.length))
             tell_of(&process, followed);
         stream_close(&process.stream);

@@ -4,11 +4,21 @@
 #include <stdlib.h>
 #include <string.h>
 
+#include "../format.h"
 #include "memory.h"
+#include "names.h"
 
-static const char *or_none(const char *word)
+/* A line of the word and its value, which may have a newline of its own. */
+static void put(FILE *file, const char *word, const char *value)
 {
-    return word ? word : "";
+    fprintf(file, "%s ", word);
+    for (; value && *value; value++) {
+        if (*value == '\n' || *value == ESCAPE)
+            fprintf(file, "%c%02x", ESCAPE, (unsigned)*value);
+        else
+            putc(*value, file);
+    }
+    putc('\n', file);
 }
 
 bool kept_write(const struct settings *settings, const char *work)
@@ -18,15 +28,24 @@ bool kept_write(const struct settings *settings, const char *work)
     free(path);
     if (!file)
         return false;
-    fprintf(file, "keep %s\nignore %s\nwitness %s\nmisfit %s\nerror ", or_none(settings->keep), or_none(settings->ignore),
-        or_none(settings->witness), or_none(settings->misfit));
+    put(file, "keep", settings->keep);
+    put(file, "ignore", settings->ignore);
+    put(file, "witness", settings->witness);
+    put(file, "misfit", settings->misfit);
+    fputs("error ", file);
     if (settings->error)
         fprintf(file, "%d", settings->error);
-    fprintf(file, "\nlog %s\nsuppressions %s\ngraph %s\nprofile %s\njudge %s\n", or_none(settings->log),
-        settings->suppressions ? "yes" : "", or_none(settings->graph), settings->all_held ? "all" : "",
-        settings->judge ? "yes" : "");
-    fprintf(file, "frames %d\nskip %s\ndirectory %s\nprogram %s\nlittle %s\n", settings->frames, or_none(settings->skip),
-        or_none(settings->directory), or_none(settings->program), or_none(settings->little));
+    putc('\n', file);
+    put(file, "log", settings->log);
+    put(file, "suppressions", settings->suppressions ? "yes" : "");
+    put(file, "graph", settings->graph);
+    put(file, "profile", settings->all_held ? "all" : "");
+    put(file, "judge", settings->judge ? "yes" : "");
+    fprintf(file, "frames %d\n", settings->frames);
+    put(file, "skip", settings->skip);
+    put(file, "directory", settings->directory);
+    put(file, "program", settings->program);
+    put(file, "little", settings->little);
     bool whole = !ferror(file);
     return fclose(file) == 0 && whole;
 }
@@ -42,7 +61,9 @@ static char *value_of(const char *line, const char *word)
     size_t length = strlen(word);
     if (strncmp(line, word, length) != 0 || line[length] != ' ')
         return NULL;
-    return copy_bytes(line + length + 1, strcspn(line + length + 1, "\n"));
+    char *value = copy_bytes(line + length + 1, strcspn(line + length + 1, "\n"));
+    undo_escapes(value);
+    return value;
 }
 
 /* Where the line is that word's, and its value is wanted, the setting becomes that. */

@@ -2,6 +2,10 @@
 
 #include <string.h>
 
+#include "../format.h"
+#include "memory.h"
+#include "names.h"
+
 static bool is_blank(char byte)
 {
     return byte == ' ' || byte == '\t';
@@ -76,9 +80,11 @@ bool field_hexadecimal(const struct line *line, unsigned number, uint64_t *value
     return true;
 }
 
-struct field field_rest(const struct line *line, unsigned number)
+char *field_word(const struct line *line, unsigned number)
 {
-    if (number >= line->count)
-        return (struct field){line->end, 0};
-    return (struct field){line->field[number].at, (size_t)(line->end - line->field[number].at)};
+    if (number >= line->count || field_is(line, number, NO_NAME))
+        return NULL;
+    char *word = copy_bytes(line->field[number].at, line->field[number].length);
+    undo_escapes(word);
+    return word;
 }

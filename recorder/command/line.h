@@ -28,7 +28,7 @@ bool field_is(const struct line *line, unsigned number, const char *word);
 /* The field as a number that is `most` or less. False where it isn't one. */
 bool field_number(const struct line *line, unsigned number, uint32_t most, uint32_t *value);
 bool field_hexadecimal(const struct line *line, unsigned number, uint64_t *value);
-/* From the field on to the line's end, spaces and all; nothing where there is none. */
-struct field field_rest(const struct line *line, unsigned number);
+/* The word of others that the field has, without escapes, as a text of one's own; NULL where it has none. */
+char *field_word(const struct line *line, unsigned number);
 
 #endif

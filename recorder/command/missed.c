@@ -17,6 +17,7 @@ static const char *const meanings[WHATS] = {
     [MISSED_TYPES] = "types (a trace has room for 1,023)",
     [MISSED_LOCKS] = "locks (a trace has room for 65,536)",
     [MISSED_HELD] = "acquisitions (by a thread that holds 512 locks)",
+    [MISSED_LONG] = "lines (a name was too long for them)",
     [MISSED_LOG] = "requests (a trace has room for 16,777,216 calls)",
     [FAILED_ROOM] = "lines (no room: the disk is full)",
     [FAILED_LIMIT] = "lines (no room: a limit on the size of files)",

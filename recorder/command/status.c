@@ -8,6 +8,7 @@
 
 #include "../format.h"
 #include "memory.h"
+#include "names.h"
 
 enum { BYTES_LEAST = 65536 };
 
@@ -76,6 +77,14 @@ static bool is_process(const char *line)
     return line[0] == STATUS_PROCESS && strspn(line + 1, "0123456789") == STATUS_DIGITS && line[1 + STATUS_DIGITS] == ' ';
 }
 
+/* The path that stands there as a word: a text of one's own. */
+static char *path_in(const char *word)
+{
+    char *path = copy(word);
+    undo_escapes(path);
+    return path;
+}
+
 /* The number of the process whose line it is; 0 where it is no process's. */
 static long read_line(struct status *status, char *line)
 {
@@ -85,9 +94,9 @@ static long read_line(struct status *status, char *line)
     } else if (strcmp(line, STATUS_SEMAPHORES) == 0) {
         status->has_semaphores = true;
     } else if (strncmp(line, object, sizeof object - 1) == 0) {
-        ADD(status->object, status->objects, status->object_room) = copy(line + sizeof object - 1);
+        ADD(status->object, status->objects, status->object_room) = path_in(line + sizeof object - 1);
     } else if (strncmp(line, past, sizeof past - 1) == 0) {
-        ADD(status->past, status->pasts, status->past_room) = copy(line + sizeof past - 1);
+        ADD(status->past, status->pasts, status->past_room) = path_in(line + sizeof past - 1);
     } else if (is_process(line)) {
         read_parts(status, strtol(line + 1, NULL, 10), line + 2 + STATUS_DIGITS);
         return strtol(line + 1, NULL, 10);

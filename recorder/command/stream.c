@@ -48,19 +48,18 @@ static void find_lines(struct stream *stream, char *bytes, bool goes_on)
     stream->length = whole_lines(bytes, length);
 }
 
-/* The rest of the line with that word. */
-static char *rest_of(const struct stream *stream, const char *word)
+/* The name that the second line has. */
+static char *program_in(const struct stream *stream)
 {
     struct line line;
     const char *at = stream->bytes;
-    for (unsigned lines = 0; lines < 2 && line_next(&line, &at, stream->bytes + stream->length); lines++)
-        if (field_is(&line, 0, word)) {
-            struct field rest = field_rest(&line, 1);
-            char *text = copy_bytes(rest.at, rest.length);
-            clean_name(text);
-            return text;
-        }
-    return copy("");
+    char *name = NULL;
+    for (unsigned lines = 0; lines < 2 && !name && line_next(&line, &at, stream->bytes + stream->length); lines++)
+        if (field_is(&line, 0, WORD_PROGRAM))
+            name = field_word(&line, 1);
+    if (name)
+        clean_name(name);
+    return name ? name : copy("");
 }
 
 static long process_of(const char *path)
@@ -71,37 +70,41 @@ static long process_of(const char *path)
     return number > 0 && number < INT_MAX ? number : 0;
 }
 
-/* What the file has outside its holes, in memory of one's own. */
-static void *read_pieces(int file, size_t size)
+/* Where something is written from there on; where the file's system knows nothing of holes, there. -1 of nothing. */
+static off_t next_written(int file, off_t from)
 {
-    char *bytes = mmap(NULL, size, PROT_READ | PROT_WRITE, MAP_PRIVATE | MAP_ANONYMOUS | MAP_NORESERVE, -1, 0);
+    off_t found = lseek(file, from, SEEK_DATA);
+    return found < 0 && errno == EINVAL ? from : found;
+}
+
+/* How far the file has room on the disk. */
+static size_t room_of(int file, size_t size)
+{
+    off_t hole = lseek(file, 0, SEEK_HOLE);
+    return hole >= 0 && (size_t)hole < size && lseek(file, hole, SEEK_DATA) < 0 ? (size_t)hole : size;
+}
+
+/*
+ * What the file has outside its holes, in memory of one's own: so it may be mended where it is damaged. It isn't mapped,
+ * since whoever writes it may cut it meanwhile, and what was cut off can't be touched.
+ */
+static void *read_pieces(struct stream *stream, int file, size_t size)
+{
+    enum { PIECE = 1 << 20 };
+    static char nothing[1];
+    stream->mapped = room_of(file, size);
+    if (stream->mapped == 0)
+        return nothing;
+    char *bytes = mmap(NULL, stream->mapped, PROT_READ | PROT_WRITE, MAP_PRIVATE | MAP_ANONYMOUS | MAP_NORESERVE, -1, 0);
     off_t at = 0;
-    while (bytes != MAP_FAILED && (at = lseek(file, at, SEEK_DATA)) >= 0 && (size_t)at < size) {
-        ssize_t got = pread(file, bytes + at, size - (size_t)at < 1 << 20 ? size - (size_t)at : 1 << 20, at);
+    while (bytes != MAP_FAILED && (at = next_written(file, at)) >= 0 && (size_t)at < stream->mapped) {
+        size_t left = stream->mapped - (size_t)at;
+        ssize_t got = pread(file, bytes + at, left < PIECE ? left : PIECE, at);
         if (got <= 0)
             break;
         at += got;
     }
     return bytes;
-}
-
-/*
- * Maps the file as this process's own, so that it may be mended where it is damaged. A hole isn't touched: where the disk
- * is full, a page of it can't be had.
- */
-static void *map(struct stream *stream, int file, size_t size)
-{
-    static char nothing[1];
-    off_t hole = lseek(file, 0, SEEK_HOLE);
-    bool has_hole = hole >= 0 && (size_t)hole < size;
-    stream->mapped = size;
-    if (has_hole && lseek(file, hole, SEEK_DATA) >= 0)
-        return read_pieces(file, size);
-    if (has_hole)
-        stream->mapped = (size_t)hole;
-    if (stream->mapped == 0)
-        return nothing;
-    return mmap(NULL, stream->mapped, PROT_READ | PROT_WRITE, MAP_PRIVATE, file, 0);
 }
 
 bool stream_open(struct stream *stream, const char *path, bool goes_on)
@@ -118,7 +121,7 @@ bool stream_open(struct stream *stream, const char *path, bool goes_on)
         opened = false;
     }
     if (opened) {
-        bytes = map(stream, file, (size_t)status.st_size);
+        bytes = read_pieces(stream, file, (size_t)status.st_size);
         opened = bytes != MAP_FAILED;
     }
     int error = errno;
@@ -128,7 +131,7 @@ bool stream_open(struct stream *stream, const char *path, bool goes_on)
         return false;
     find_lines(stream, bytes, goes_on);
     stream->path = copy(path);
-    stream->program = rest_of(stream, WORD_PROGRAM);
+    stream->program = program_in(stream);
     stream->process = process_of(path);
     stream->answered = stream->length > ASKED_AT && stream->bytes[ASKED_AT] == ASKED_NOT;
     return true;
@@ -141,6 +144,18 @@ void stream_close(struct stream *stream)
     free(stream->path);
     free(stream->program);
     *stream = (struct stream){0};
+}
+
+size_t stream_room(const char *path)
+{
+    struct stat status;
+    size_t room = 0;
+    int file = open(path, O_RDONLY | O_CLOEXEC | O_NONBLOCK);
+    if (file >= 0 && fstat(file, &status) == 0)
+        room = room_of(file, (size_t)status.st_size);
+    if (file >= 0)
+        close(file);
+    return room;
 }
 
 bool stream_count(const struct stream *stream, const char *name, unsigned long *count)

@@ -1,5 +1,6 @@
 /*
- * A recorder's file, as the in-process half writes it (recorder/format.h): lines, then zeroes. It is only read.
+ * A recorder's file, as the in-process half writes it (recorder/format.h): lines, then zeroes. It is only read, and whoever
+ * has it may write to it or cut it meanwhile.
  */
 #ifndef RECORD_STREAM_H
 #define RECORD_STREAM_H
@@ -9,9 +10,9 @@
 
 struct stream {
     char *path;
-    const char *bytes; /* mapped */
+    const char *bytes; /* as they were when it was opened */
     size_t length;     /* of the lines that are whole */
-    size_t mapped;
+    size_t mapped;     /* memory for them */
     size_t told;       /* its length when a report of it was told first; 0 where none was */
     char *program;     /* of the first line */
     long process;      /* by the file's name */
@@ -24,6 +25,9 @@ struct stream {
  */
 bool stream_open(struct stream *stream, const char *path, bool goes_on);
 void stream_close(struct stream *stream);
+
+/* No more bytes than this are written in the file. It isn't read for that. */
+size_t stream_room(const char *path);
 
 /* The count of that name in the first line; false where there is none. */
 bool stream_count(const struct stream *stream, const char *name, unsigned long *count);

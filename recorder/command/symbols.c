@@ -346,9 +346,10 @@ static void ask_reader(struct binary *binary)
     free(question);
 }
 
+/* Each has a line of its own in the question. */
 void symbols_want(struct symbols *symbols, const char *mangled)
 {
-    if (mangled[0] != '_' || (mangled[1] != 'Z' && mangled[1] != 'R'))
+    if (mangled[0] != '_' || (mangled[1] != 'Z' && mangled[1] != 'R') || strpbrk(mangled, " \t\r\n"))
         return;
     size_t *number = map_add_text(&symbols->names, mangled);
     if (*number != 0)

@@ -359,11 +359,10 @@ static void note_thread(struct writing *writing, const struct line *line)
     event->thread = thread;
     if (field_number(line, 1, SEAT_MOST - 1, &seat))
         writing->sitter[seat] = thread;
-    if (line->count > 2 && !field_is(line, 2, "-")) {
-        char *name = copy_bytes(line->field[2].at, line->field[2].length);
+    char *name = field_word(line, 2);
+    if (name)
         event->name = word_of(writing->making->sites, name);
-        free(name);
-    }
+    free(name);
     note_maker(writing, event, place_in(line, 3));
 }
 

@@ -1,133 +1,160 @@
-# Tests of what the recorder leaves as it was in a program, and of what was not seen: read by `run`, whose functions it uses.
+# Tests that a program does under the recorder what it does without, where it is an odd one; and that names with any bytes
+# are told. Read by `run`, whose functions it uses.
 
-# plugin NAME FIRST SECOND: a library of these two locks.
-plugin() {
-    cp "$here/plugin.c" . && "${CC:-cc}" -g -DFIRST="$2" -DSECOND="$3" -fPIC -shared -pthread -o "$1.so" plugin.c
-}
-
-# The program has the same status by itself and in the recorder.
-is_unharmed() {
-    timeout 20 "$@" >plain.out 2>&1
+# same NAME COMMAND..: the command's output and status are as without the recorder.
+same() {
+    "$@" >plain.out 2>/dev/null
     plain=$?
-    timeout 30 "$record" --errors no -- "$@" >recorded.out 2>recorded.err
-    status=$?
-    [ $status -eq $plain ] && cmp -s plain.out recorded.out && return
-    echo "$plain by itself, $status in the recorder" && cat recorded.err
-    return 1
+    "$record" --frames 8 -- "$@" >recorded.out 2>recorded.err
+    recorded=$?
+    cmp plain.out recorded.out && [ "$plain" = "$recorded" ]
 }
 
-# A file that is mapped and locked by fcntl is neither opened nor closed, which would let go the lock.
-if wanted filelock; then
-    compile filelock && plugin one one_a one_b
-    is_unharmed ./filelock "$work/locked" "$work/one.so" && [ $plain -eq 0 ]
-    tell filelock "a lock of a file" $?
-    cat >database.py <<'END'
-import ctypes, os, sqlite3, subprocess, sys
-if len(sys.argv) > 1:
-    other = sqlite3.connect("rows.db", timeout=0.2, isolation_level=None)
-    try:
-        other.execute("begin immediate")
-        other.execute("insert into t values (2)")
-        other.execute("commit")
-        print("got in")
-    except sqlite3.OperationalError as error:
-        print(error)
-    sys.exit()
-for name in ("rows.db", "rows.db-shm", "rows.db-wal"):
-    if os.path.exists(name):
-        os.unlink(name)
-base = sqlite3.connect("rows.db", isolation_level=None)
-base.execute("pragma journal_mode=wal")
-base.execute("create table t (x)")
-base.execute("begin immediate")
-base.execute("insert into t values (1)")
-ctypes.CDLL("./one.so").work()
-second = [sys.executable, "database.py", "second"]
-print(subprocess.run(second, stdout=subprocess.PIPE, env={}, text=True).stdout, end="")
-base.execute("commit")
-print(base.execute("select count(*) from t").fetchall())
-END
-    if python3 -c 'import sqlite3, ctypes' 2>/dev/null; then
-        is_unharmed "$(python3 -c 'import sys; print(sys.executable)')" database.py && grep -q 'database is locked' recorded.out
-        tell filelock "a database's lock" $?
+# tells_as REPORTS PROGRAM: it is told of the program, with all callers, what stands there.
+tells_as() {
+    "$record" --frames 8 -- "$2" 2>recorded.err
+    told <recorded.err | diff "$1" -
+}
+
+# Names with any bytes, in each place that one comes from: none ends a line or a field of the recorder's file.
+if wanted words; then
+    compile reversal
+    "$record" --frames 8 -- ./reversal 2>&1 | told >reversal.told
+    odd=$(printf 'x\ninit 1 mtx - 9 1\ncheck 1 1 x n 5')
+    cp reversal "$odd"
+    tells_as reversal.told "./$odd"
+    tell words "a program whose name has newlines" $?
+    folder=$(printf 'a\nb %%41 c\tobject 1 x')
+    mkdir "$folder" && cp reversal "$folder"
+    tells_as reversal.told "./$folder/reversal"
+    tell words "a folder whose name has a newline" $?
+    deep=deep
+    part=$(printf 'd%.0s' $(seq 200))
+    for i in 1 2 3 4 5 6 7 8 9 10 11 12 13 14 15 16 17 18; do deep=$deep/$part; done
+    mkdir -p "$deep" && cp reversal "$deep"
+    tells_as reversal.told "./$deep/reversal"
+    tell words "a path of more than 3,600 bytes" $?
+    copy_recorder short
+    sed 's/LINE_MOST = 1 << 14/LINE_MOST = 1 << 9/' "$recorder/stream.c" >short/stream.c
+    cmp -s "$recorder/stream.c" short/stream.c
+    [ $? -eq 1 ] && short/record -- "./$deep/reversal" 2>&1 | told >recorded.err &&
+        grep -q '^record: reversal: not recorded: 1 lines (a name was too long for them)$' recorded.err &&
+        grep -q '^ 1st "journal" .*+0x[0-9a-f]*(checkpoint):0$' recorded.err
+    tell words "a line that has no room is left out and counted, and the next one is read" $?
+    if command -v objcopy >/dev/null; then
+        objcopy --redefine-sym "journal=jo ur" reversal space
+        objcopy --redefine-sym "pool=$(printf 'po\nmany 0 0 0 x 0 0 x\nol')" reversal newline
+        strip -g space newline
+        "$record" -- ./space 2>&1 | told >recorded.err
+        [ "$(tail -n 1 recorded.err)" = "record: 1 report, 0 circles, 1 process" ] && grep -q '^ 1st "jo ur" (jo ur, ' recorded.err &&
+            ! grep -q 'nothing is known\|no room' recorded.err
+        tell words "a variable whose name has a space" $?
+        "$record" --frames 8 -- ./newline 2>&1 | told >recorded.err
+        [ "$(tail -n 1 recorded.err)" = "record: 1 report, 0 circles, 1 process" ] &&
+            grep -q '^ 2nd "po?many 0 0 0 x 0 0 x?ol" ' recorded.err && grep -q '^single locks: both orders, the same locks, ' recorded.err
+        tell words "a variable whose name has newlines" $?
     else
-        echo "left out  filelock: there is no python3 with sqlite3"
+        echo "left out  words: there is no objcopy"
+    fi
+    rm -rf records && mkdir records
+    printf '#include <dlfcn.h>\nint main(void) { return dlopen("/none/x\\nP0000077 name forged loaded 1", RTLD_NOW) != 0; }\n' |
+        "${CC:-cc}" -x c -o forges - -ldl &&
+        env RECORDER_DIRECTORY="$work/records" LD_PRELOAD="$recorder/out/recorder.so" ./forges &&
+        ! grep -aq '^P0000077' records/status && tr -d '\000' <records/status | grep -aq '^object /none/x%0aP0000077%20name%20forged'
+    tell words "a library whose name has a newline" $?
+fi
+
+# What can't be read is refused by the kernel, and not by the program's end.
+if wanted execs; then
+    compile badexec
+    same ./badexec </dev/null
+    tell execs "words that can't be read, or aren't right" $?
+fi
+
+if wanted joins; then
+    compile joins
+    "${CC:-cc}" -g -fPIC -shared -DLIBRARY -pthread -o libjoins.so joins.c -ldl
+    "${CC:-cc}" -g -rdynamic -pthread -o joins joins.c -ldl
+    LD_PRELOAD="$work/libjoins.so" timeout 60 "$record" --frames 8 -- ./joins >recorded.out 2>recorded.err
+    if [ "$(cat recorded.out)" = "the same handle" ]; then
+        told <recorded.err | grep -qx 'single locks: both orders, the same locks, threads N and N'
+        tell joins "a thread that has the handle of one that was joined" $?
+    else
+        echo "left out  joins: no handle came twice"
     fi
 fi
 
-if wanted robust; then
-    compile robust
-    is_unharmed ./robust && [ $plain -eq 0 ]
-    tell robust "a mutex that can't be recovered" $?
+# Functions of GLib and OpenMP are there where their library is.
+if wanted optional; then
+    compile optional -ldl
+    same ./optional
+    tell optional "weak names, and names that are looked for, of libraries that aren't there" $?
+    if "${CC:-cc}" -g -fPIC -shared -DLIBRARY -o libneeds.so optional.c -l:libglib-2.0.so.0 2>/dev/null; then
+        for way in lazy now; do
+            "${CC:-cc}" -g -fPIC -shared -Wl,-z,$way -DLIBRARY -o libneeds.so optional.c -l:libglib-2.0.so.0
+            same ./optional "$work/libneeds.so" && told <recorded.err | grep -q '^record: 1 report, '
+            tell optional "a library that brings GLib while the program runs ($way)" $?
+        done
+        "${CC:-cc}" -g -Wl,--no-as-needed -o glibbed optional.c -l:libglib-2.0.so.0 -ldl
+        same ./glibbed "$work/libneeds.so" && told <recorded.err | grep -q '^record: 1 report, '
+        tell optional "a program that has GLib" $?
+    else
+        echo "left out  optional: GLib isn't there"
+    fi
 fi
 
-# An object is what the dynamic linker says is one.
-if wanted mapped; then
-    plugin one one_a one_b
-    printf 'int big_table_of_another_file[1 << 20];\n' >big.c && "${CC:-cc}" -g -fPIC -shared -o big.so big.c
-    compile flat && is_unharmed ./flat "$work/big.so" "$work/one.so" && [ $plain -eq 0 ]
-    tell mapped "a library's file that is mapped as data" $?
-    rm -rf kept && mkdir kept
-    RECORDER_DIRECTORY=$work/kept LD_PRELOAD=$("$recorder/build")/recorder.so ./flat "$work/big.so" "$work/one.so"
-    grep -aq '^init' kept/[0-9]* && ! grep -aq 'big.so' kept/[0-9]*
-    tell mapped "it has no locks" $?
-    # The second one has the opposite order of locks at the addresses of the first one's.
-    compile unloaded && plugin one one_a one_b
-    sed 's/both(&FIRST, &SECOND)/both(\&LATER, \&FIRST)/; s/both(&SECOND, &FIRST)/both(\&FIRST, \&LATER)/; s/SECOND/LATER/' \
-        "$here/plugin.c" >turned.c
-    "${CC:-cc}" -g -DFIRST=two_a -DLATER=two_b -fPIC -shared -pthread -o two.so turned.c
-    recorded_by "$record" --frames 1 -- ./unloaded "$work/one.so" "$work/two.so"
-    said 0 "^$clean\$" && last_is 'record: nothing to report'
-    tell mapped "a library that stands where another one was" $?
-fi
-
-# What is opened so has the C library's own calls.
-if wanted apart; then
-    compile apart && plugin one one_a one_b
-    recorded_by "$record" -- ./apart plain "$work/one.so"
-    said 0 '^record: 1 report, 0 circles, 1 process$'
-    tell apart "a library that is opened as most are" $?
-    for how in deepbind dlmopen; do
-        recorded_by "$record" -- ./apart $how "$work/one.so"
-        last_is "record: nothing in what was recorded; not seen: locks of one.so (see record(1))" &&
-            ! grep -q 'clean:' recorded.err
-        tell apart "$how" $?
+# As many bytes more than the program needs by itself are few.
+if wanted coroutines; then
+    compile coroutines -Wl,-z,now
+    for way in "" handlers onstack thread; do
+        same ./coroutines 1280 $way && told <recorded.err | grep -q '^ 1st "a" \|^ 1st "b" '
+        tell coroutines "a stack of 1,280 bytes${way:+ ($way)}" $?
     done
-    recorded_by "$record" -- ./apart none "$work/none.so"
-    last_is 'record: nothing to report'
-    tell apart "no library of that name" $?
-fi
-
-# A reader that reads again, and a writer that waits in between.
-if wanted reread; then
-    compile reread
-    recorded_by "$record" -- ./reread writers
-    said 0 'a lock was read again by a thread that read it, and a writer that waits in between stops both: "lock" @ reread.c:15' &&
-        last_is 'record: nothing to report but 1 error' &&
-        grep -q '^record: not clean: reread: a thread read a lock again that it read' recorded.err
-    tell reread "a lock that prefers writers" $?
-    recorded_by "$record" --errors no --error-exitcode 7 -- ./reread writers
-    said 0 '^record: not clean: ' && ! grep -q '^record: clean' recorded.err
-    tell reread "where errors aren't told" $?
-    for kind in readers default; do
-        recorded_by "$record" -- ./reread $kind
-        said 0 "^$clean\$" && last_is 'record: nothing to report'
-        tell reread "$kind" $?
+    compile coroutines
+    for bytes in 4096 6144; do
+        same ./coroutines $bytes
+        tell coroutines "a stack of $bytes bytes, with functions that are looked for when they are called" $?
     done
 fi
 
-# Locks that processes share are judged in each by itself.
-if wanted processes; then
-    compile processes
-    for class in mutex rwlock; do
-        recorded_by "$record" -- ./processes both $class
-        said 0 '^record: not clean: .*: locks that processes share are judged in each process by itself$' &&
-            ! grep -q '^record: clean' recorded.err
-        tell processes "both processes hold one and ask for another ($class)" $?
-        for how in one alone; do
-            recorded_by "$record" -- ./processes $how $class
-            last_is 'record: nothing to report' && grep -q '^record: clean' recorded.err
-            tell processes "$how ($class)" $?
+if wanted brought; then
+    compile brought
+    for way in "" onstack; do
+        same ./brought $way
+        tell brought "a mutex in memory that a handler brings${way:+ ($way)}" $?
+    done
+fi
+
+# As another user, under a limit that has room for the program alone; and under one that hasn't even that.
+if wanted pinned; then
+    compile pinned
+    "$record" -- true 2>/dev/null
+    user=
+    [ "$(id -u)" -ne 0 ] || user="setpriv --reuid 65534 --clear-groups --inh-caps=-all"
+    mkdir all && chmod 777 all && chmod 755 "$work" && cp "$recorder/out/recorder.so" pinned all
+    limits="8192 2048"
+    if ! (ulimit -l 8192 && $user true) 2>/dev/null; then
+        echo "left out  pinned: there is no such limit, or no other user"
+        limits=
+    fi
+    for limit in $limits; do
+        for way in both now; do
+            (ulimit -l $limit && $user all/pinned $way >plain.out
+            $user env RECORDER_DIRECTORY="$work/all" LD_PRELOAD="$work/all/recorder.so" all/pinned $way >recorded.out)
+            cmp plain.out recorded.out && [ "$(head -n 1 plain.out)" = "$([ $limit = 8192 ] && echo locked || echo Cannot allocate memory)" ]
+            tell pinned "all memory is locked, or not, as without the recorder ($way, a limit of $limit kB)" $?
         done
     done
+fi
+
+# A file that a process of the run cuts ends neither `record` nor another process.
+if wanted cut; then
+    compile cuts
+    timeout 60 "$record" -- ./cuts >recorded.out 2>recorded.err
+    [ $? -eq 7 ] && [ "$(cat recorded.out)" = done ] && tail -n 1 recorded.err | grep -q '^record: '
+    tell cut "a recorder's file" $?
+    printf '%s\n' ': >"$RECORDER_DIRECTORY/status"' '/bin/echo one' '/bin/echo two' 'exit 5' >cut.sh
+    timeout 60 "$record" -- sh ./cut.sh >recorded.out 2>recorded.err
+    [ $? -eq 5 ] && printf 'one\ntwo\n' | cmp - recorded.out
+    tell cut "the status of the run" $?
 fi
