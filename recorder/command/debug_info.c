@@ -147,7 +147,7 @@ bool entry_address(const struct entry *entry, uint64_t *address)
 /* From DWARF 5 on a unit's own file has the number 0, which libdw takes for none. */
 const char *entry_file(const struct entry *entry)
 {
-    const char *file = libdw.file(libdw_raw(entry));
+    const char *file = libdw.declared_in(libdw_raw(entry));
     struct entry unit;
     uint64_t number;
     if (file || !number_of(entry, ATTRIBUTE_FILE, &number) || number != 0)

@@ -42,8 +42,13 @@ enum entry_kind {
     ENTRY_ATOMIC = 0x47,
 };
 
-/* NULL where there is none. The build-id, of which it is NULL where there is none, says where it may stand by itself. */
-struct debug_info *debug_info_open(const char *path, const char *build_id);
+/*
+ * NULL where there is none. Where it stands in a file of its own, that is found by the object's build-id or the link in
+ * it, as debuggers do; over the net, too, where the user has set DEBUGINFOD_URLS.
+ */
+struct debug_info *debug_info_open(const char *path);
+/* The file of its own in which it stands; NULL where it is in the object's. */
+const char *debug_info_file(const struct debug_info *info);
 void debug_info_end(struct debug_info *info); /* NULL is nothing */
 
 enum entry_kind entry_kind(const struct entry *entry);

@@ -6,7 +6,7 @@
 
 #include <fcntl.h>
 #include <stdlib.h>
-#include <string.h>
+#include <sys/stat.h>
 #include <unistd.h>
 
 struct unit {
@@ -19,19 +19,57 @@ struct unit {
 };
 
 struct debug_info {
-    void *handle;
-    int file;
+    void *search, *handle;
+    char *file; /* as of debug_info_file */
     struct unit *unit;
     size_t units, unit_room;
     struct fixed_variable *last; /* that was asked for: many locks stand in one variable */
 };
 
-static bool open_at(struct debug_info *info, const char *path)
+/* A file that isn't a regular one isn't opened: that may wait. */
+static int open_regular(const char *path)
 {
-    info->file = open(path, O_RDONLY | O_CLOEXEC | O_NONBLOCK);
-    info->handle = info->file < 0 ? NULL : libdw.begin(info->file, 0);
-    if (!info->handle && info->file >= 0)
-        close(info->file);
+    struct stat found;
+    int file = open(path, O_RDONLY | O_CLOEXEC | O_NONBLOCK | O_NOCTTY);
+    if (file >= 0 && fstat(file, &found) == 0 && S_ISREG(found.st_mode))
+        return file;
+    if (file >= 0)
+        close(file);
+    return -1;
+}
+
+/* The name of the file that was found last; NULL where none was. What came over the net has none for libdwfl. */
+static char *found_last;
+
+static int find_and_note(void *object, void **users, const char *name, uint64_t base, const char *file, const char *link,
+    uint32_t sum, char **found)
+{
+    int opened = libdw.find_debug(object, users, name, base, file, link, sum, found);
+    char *path = opened >= 0 ? say_text("/proc/self/fd/%d", opened) : NULL;
+    free(found_last);
+    found_last = path ? realpath(path, NULL) : NULL;
+    free(path);
+    return opened;
+}
+
+/* Of one file the addresses in its debug information are those that the file has. */
+static bool find(struct debug_info *info, const char *path)
+{
+    /* libdw keeps it. */
+    static struct search_for_debug search;
+    uint64_t shift;
+    search = (struct search_for_debug){NULL, find_and_note, libdw.section_address, NULL};
+    int file = open_regular(path);
+    info->search = file >= 0 ? libdw.begin(&search) : NULL;
+    void *object = info->search ? libdw.file(info->search, path, path, file) : NULL;
+    if (!object && file >= 0)
+        close(file);
+    if (!object)
+        return false;
+    libdw.files_end(info->search, NULL, NULL);
+    info->handle = libdw.debug_of(object, &shift);
+    info->file = found_last;
+    found_last = NULL;
     return info->handle != NULL;
 }
 
@@ -49,24 +87,20 @@ static bool read_units(struct debug_info *info)
     return info->units > 0;
 }
 
-struct debug_info *debug_info_open(const char *path, const char *build_id)
+struct debug_info *debug_info_open(const char *path)
 {
     if (!libdw_loads())
         return NULL;
     struct debug_info *info = take(sizeof *info);
-    bool is_open = open_at(info, path);
-    if (!is_open && build_id && strlen(build_id) > 2) {
-        char *other = say_text("/usr/lib/debug/.build-id/%.2s/%s.debug", build_id, build_id + 2);
-        is_open = open_at(info, other);
-        free(other);
-    }
-    if (is_open && read_units(info))
+    if (find(info, path) && read_units(info))
         return info;
-    if (is_open)
-        debug_info_end(info);
-    else
-        free(info);
+    debug_info_end(info);
     return NULL;
+}
+
+const char *debug_info_file(const struct debug_info *info)
+{
+    return info->file;
 }
 
 static void unit_end(struct unit *unit)
@@ -81,8 +115,9 @@ void debug_info_end(struct debug_info *info)
 {
     if (!info)
         return;
-    libdw.end(info->handle);
-    close(info->file);
+    if (info->search)
+        libdw.end(info->search);
+    free(info->file);
     for (size_t i = 0; i < info->units; i++)
         unit_end(&info->unit[i]);
     free(info->unit);

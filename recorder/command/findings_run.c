@@ -10,6 +10,7 @@
 #include "memory.h"
 #include "replay.h"
 #include "sarif.h"
+#include "written.h"
 
 bool findings_are_wanted(const struct settings *settings)
 {
@@ -111,7 +112,7 @@ static void write_file(struct run *run, const char *path, void (*write)(FILE *to
 {
     if (!is_asked(path))
         return;
-    FILE *to = fopen(path, "we");
+    FILE *to = written_file(path);
     if (to)
         write(to, &run->findings);
     bool is_written = to && !ferror(to);

@@ -1,6 +1,5 @@
 #include "graph.h"
 
-#include <fcntl.h>
 #include <signal.h>
 #include <spawn.h>
 #include <stdlib.h>
@@ -12,6 +11,7 @@
 #include "memory.h"
 #include "replay.h"
 #include "usage.h"
+#include "written.h"
 
 extern char **environ;
 
@@ -60,7 +60,7 @@ void graph_write(FILE *to, const struct order_list *orders)
 static bool write_dot(struct process *process, const char *path)
 {
     struct order_list orders = {0};
-    FILE *to = fopen(path, "we");
+    FILE *to = written_file(path);
     bool is_good = to && orders_read(process, &orders);
     if (is_good)
         graph_write(to, &orders);
@@ -75,11 +75,14 @@ static bool run_dot(const char *text, const char *file)
     char *words[] = {"dot", "-Tsvg", (char *)text, NULL};
     posix_spawn_file_actions_t files;
     pid_t process;
-    int status = 1;
+    int status = 1, to = written_open(file, WRITTEN_ANEW);
+    if (to < 0)
+        return false;
     posix_spawn_file_actions_init(&files);
-    posix_spawn_file_actions_addopen(&files, STDOUT_FILENO, file, O_WRONLY | O_CREAT | O_TRUNC, 0666);
+    posix_spawn_file_actions_adddup2(&files, to, STDOUT_FILENO);
     bool is_begun = posix_spawnp(&process, words[0], &files, NULL, words, environ) == 0;
     posix_spawn_file_actions_destroy(&files);
+    close(to);
     return is_begun && waitpid(process, &status, 0) == process && status == 0;
 }
 

@@ -14,6 +14,7 @@
 #include "memory.h"
 #include "report_text.h"
 #include "usage.h"
+#include "written.h"
 
 /* A run that is told of, with the orders of others. */
 struct ending_run {
@@ -58,9 +59,12 @@ void learn_check(const struct settings *settings)
     struct learnt learnt = {0};
     const char *file = is_asked(settings->learn) ? settings->learn : settings->known;
     char *path = learnt_path(file), *why = NULL;
-    if (is_asked(settings->learn) && !is_writable(path))
+    bool is_written_to = is_asked(settings->learn) && written_is_special(path);
+    if (is_written_to)
+        written_check(path);
+    else if (is_asked(settings->learn) && !is_writable(path))
         refuse_target("%s can't be written: %s", file, strerror(errno));
-    if (!is_asked(settings->learn) || is_there(path))
+    if (!is_written_to && (!is_asked(settings->learn) || is_there(path)))
         why = learnt_read(&learnt, path);
     if (why)
         refuse_target("%s", why);
@@ -234,13 +238,14 @@ void learn_tell(struct run *run)
     bool is_learnt = is_asked(run->settings.learn);
     struct ending_run ending = {.run = run, .name = is_learnt ? run->settings.learn : run->settings.known};
     ending.path = learnt_path(ending.name);
-    int lock = is_learnt ? learnt_lock(ending.path) : -1;
-    if (is_learnt && lock < 0) {
+    int lock = -1;
+    if (is_learnt && !learnt_lock(ending.path, &lock)) {
         say(&run->output, "%s.lock can't be written: %s: nothing is learnt", ending.path, strerror(errno));
         run->unknown = true;
     } else {
         /* Other runs may have written to it since this one began. */
-        char *why = is_learnt && !is_there(ending.path) ? NULL : learnt_read(&ending.learnt, ending.path);
+        bool has_known = !is_learnt || (is_there(ending.path) && !written_is_special(ending.path));
+        char *why = has_known ? learnt_read(&ending.learnt, ending.path) : NULL;
         if (why)
             tell_failure(&ending, why);
         else

@@ -11,6 +11,7 @@
 #include "memory.h"
 #include "prepare.h"
 #include "verdict.h"
+#include "written.h"
 
 void drawing_check(const struct drawing *drawing)
 {
@@ -69,7 +70,7 @@ static bool write_page(const char *path, const struct learnt *learnt, struct jud
     judgement->reports = (struct reports){0};
     findings_tell(&findings, 0, summary);
     findings_gather(&findings);
-    FILE *to = fopen(path, "we");
+    FILE *to = written_file(path);
     if (to)
         html_write(to, &findings);
     bool is_written = to && !ferror(to);
@@ -84,7 +85,7 @@ static bool write_graph(const char *path, const struct learnt *learnt, const str
     struct verdict dot;
     char *text = NULL;
     size_t length = 0;
-    FILE *to = fopen(path, "we"), *lines = open_memstream(&text, &length);
+    FILE *to = written_file(path), *lines = open_memstream(&text, &length);
     if (!to || !lines)
         return false;
     add_orders(&orders, learnt, &judgement->reports);

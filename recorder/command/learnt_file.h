@@ -1,10 +1,11 @@
 /*
  * Files of orders. Beside a file FILE stand FILE.runs, how many runs met each order, and FILE.lock, by which those that
- * write it take turns. A file without counts is one run's.
+ * write it take turns. A file without counts is one run's. Nothing stands beside what isn't a regular file.
  */
 #ifndef RECORD_LEARNT_FILE_H
 #define RECORD_LEARNT_FILE_H
 
+#include <stdbool.h>
 #include <stdio.h>
 
 #include "learnt.h"
@@ -12,19 +13,19 @@
 /* Adds the file's orders, and its runs. Why it can't be read, as a text of one's own; NULL where it was. */
 char *learnt_read(struct learnt *learnt, const char *path);
 
-/* The file that is meant where the path is a link, so that the link stays one; else the path: a text of one's own. */
+/* The file that is meant where the path is a link; else the path: a text of one's own. */
 char *learnt_path(const char *path);
 
 /*
- * Waits for its turn to write the file. The lock, which close() gives back; below 0 where there is none: errno says
- * why.
+ * Waits for its turn to write the file. False where it can't have one: errno says why. The lock, which close() gives
+ * back, is below 0 where there is none, as of what isn't a regular file.
  */
-int learnt_lock(const char *path);
+bool learnt_lock(const char *path, int *lock);
 
 /*
  * Writes the file and its counts in place of those that are there, but for new orders that are against others. Who
  * reads it meanwhile has the old one or the new one, whole. Why it can't be written, as a text of one's own; NULL
- * where it was.
+ * where it was. What isn't a regular file is written to, and has no counts.
  */
 char *learnt_write(const struct learnt *learnt, const char *path);
 

@@ -9,8 +9,13 @@ static const struct {
     const char *name;
     void *function; /* a pointer to one of libdw's functions */
 } functions[] = {
-    {"dwarf_begin", &libdw.begin},
-    {"dwarf_end", &libdw.end},
+    {"dwfl_begin", &libdw.begin},
+    {"dwfl_end", &libdw.end},
+    {"dwfl_report_offline", &libdw.file},
+    {"dwfl_report_end", &libdw.files_end},
+    {"dwfl_module_getdwarf", &libdw.debug_of},
+    {"dwfl_standard_find_debuginfo", &libdw.find_debug},
+    {"dwfl_offline_section_address", &libdw.section_address},
     {"dwarf_nextcu", &libdw.next_unit},
     {"dwarf_offdie", &libdw.entry_at},
     {"dwarf_addrdie", &libdw.unit_at},
@@ -28,7 +33,7 @@ static const struct {
     {"dwarf_getlocation_attr", &libdw.location_attribute},
     {"dwarf_formaddr", &libdw.address},
     {"dwarf_getscopes_die", &libdw.scopes},
-    {"dwarf_decl_file", &libdw.file},
+    {"dwarf_decl_file", &libdw.declared_in},
     {"dwarf_decl_line", &libdw.line},
     {"dwarf_dieoffset", &libdw.offset},
     {"dwarf_diecu", &libdw.unit},

@@ -21,12 +21,29 @@ struct operation {
     uint64_t number, number2, offset;
 };
 
+
+/* As libdwfl has it: finds the file with a file's debug information, and answers it opened; below 0 where there is none. */
+typedef int finds_debug(void *object, void **users, const char *name, uint64_t base, const char *file, const char *link,
+    uint32_t sum, char **found);
+/* What it calls; of the fourth it takes its own folders where it is NULL. */
+struct search_for_debug {
+    int (*find_file)(void);
+    finds_debug *find_debug;
+    int (*section_address)(void);
+    char **folders;
+};
+
 /* What is called of it. Its interface has versions, and stays. */
 struct libdw {
     bool is_looked_for;
     void *library;
-    void *(*begin)(int, int);
-    int (*end)(void *);
+    void *(*begin)(const struct search_for_debug *);
+    void (*end)(void *);
+    void *(*file)(void *, const char *, const char *, int);
+    int (*files_end)(void *, int (*)(void), void *);
+    void *(*debug_of)(void *, uint64_t *);
+    finds_debug *find_debug;
+    int (*section_address)(void);
     int (*next_unit)(void *, uint64_t, uint64_t *, size_t *, uint64_t *, uint8_t *, uint8_t *);
     void *(*entry_at)(void *, uint64_t, struct entry *);
     void *(*unit_at)(void *, uint64_t, struct entry *);
@@ -44,7 +61,7 @@ struct libdw {
     int (*location_attribute)(struct attribute *, const struct operation *, struct attribute *);
     int (*address)(struct attribute *, uint64_t *);
     int (*scopes)(struct entry *, struct entry **);
-    const char *(*file)(struct entry *);
+    const char *(*declared_in)(struct entry *);
     int (*line)(struct entry *, int *);
     uint64_t (*offset)(struct entry *);
     void *(*unit)(struct entry *, struct entry *, uint8_t *, uint8_t *);

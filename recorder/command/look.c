@@ -1,6 +1,7 @@
 #include "look.h"
 
 #include <dirent.h>
+#include <errno.h>
 #include <fcntl.h>
 #include <fnmatch.h>
 #include <stdio.h>
@@ -74,6 +75,17 @@ static char *mapped_by(const char *process)
     return folder;
 }
 
+/* Why can't be said by the user alone: root may lack the right, and a process may keep to itself what is its user's. */
+static _Noreturn void refuse_unreadable(const char *process)
+{
+    int why = errno;
+    struct stat found;
+    char *path = say_text("/proc/%s", process);
+    if (geteuid() != 0 && stat(path, &found) == 0 && found.st_uid != geteuid())
+        refuse_target("process %s is another user's: only he and root can look at it", process);
+    refuse_target("process %s can't be looked at: %s", process, strerror(why));
+}
+
 /* The folder that the process was begun with. */
 static char *begun_with(const char *process)
 {
@@ -83,7 +95,7 @@ static char *begun_with(const char *process)
     FILE *environment = fopen(path, "re");
     free(path);
     if (!environment)
-        refuse_target("process %s is another user's: only he and root can look at it", process);
+        refuse_unreadable(process);
     while (!folder && getdelim(&word, &room, '\0', environment) > 0)
         if (strncmp(word, name, sizeof name - 1) == 0 && word[sizeof name - 1])
             folder = copy(word + sizeof name - 1);

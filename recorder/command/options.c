@@ -12,6 +12,7 @@
 #include "inside.h"
 #include "memory.h"
 #include "usage.h"
+#include "written.h"
 
 /* The number that the word is, without a sign or zeroes before it; -1 where it isn't one from 1 to `most`. */
 static int number_up_to(const char *word, int most)
@@ -238,42 +239,42 @@ static void take_help(struct options *options, const char *word)
 
 static const struct option {
     const char *name;
-    bool has_word;
+    enum { ALONE, WORD, OUTPUT } after; /* what stands after it; OUTPUT is a file that is written */
     void (*take)(struct options *options, const char *word);
 } known[] = {
-    {"-o", true, take_keep},
-    {"--full", false, take_full},
-    {"--depth", true, take_depth},
-    {"--frames", true, take_frames},
-    {"--semaphores", false, take_semaphores},
-    {"--blocks", false, take_blocks},
-    {"--held-callers", false, take_held},
-    {"--skip", true, take_skip},
-    {"--ignore", true, take_ignore},
-    {"--error-exitcode", true, take_error},
-    {"--learn", true, take_learn},
-    {"--known", true, take_known},
-    {"--new-exitcode", true, take_new},
-    {"--run-name", true, take_run_name},
-    {"--program-name", true, take_program_name},
-    {"--graph", true, take_graph},
-    {"--html", true, take_html},
-    {"--sarif", true, take_sarif},
-    {"--json", true, take_json},
-    {"--log-file", true, take_log},
-    {"--gen-suppressions", false, take_suppressions},
-    {"--profile", true, take_profile},
-    {"--judge", false, take_judge},
-    {"--alarms", true, take_alarms},
-    {"--errors", true, take_errors},
-    {"--on-deadlock", true, take_deadlock},
-    {"--on-report", true, take_on_report},
-    {"--gdb", false, take_gdb},
-    {"--quiet", false, take_quiet},
-    {"--show", true, take_target},
-    {"--trace", true, take_trace},
-    {"--clean", true, take_clean},
-    {"--help", false, take_help},
+    {"-o", OUTPUT, take_keep},
+    {"--full", ALONE, take_full},
+    {"--depth", WORD, take_depth},
+    {"--frames", WORD, take_frames},
+    {"--semaphores", ALONE, take_semaphores},
+    {"--blocks", ALONE, take_blocks},
+    {"--held-callers", ALONE, take_held},
+    {"--skip", WORD, take_skip},
+    {"--ignore", WORD, take_ignore},
+    {"--error-exitcode", WORD, take_error},
+    {"--learn", OUTPUT, take_learn},
+    {"--known", WORD, take_known},
+    {"--new-exitcode", WORD, take_new},
+    {"--run-name", WORD, take_run_name},
+    {"--program-name", WORD, take_program_name},
+    {"--graph", OUTPUT, take_graph},
+    {"--html", OUTPUT, take_html},
+    {"--sarif", OUTPUT, take_sarif},
+    {"--json", OUTPUT, take_json},
+    {"--log-file", OUTPUT, take_log},
+    {"--gen-suppressions", ALONE, take_suppressions},
+    {"--profile", WORD, take_profile},
+    {"--judge", ALONE, take_judge},
+    {"--alarms", WORD, take_alarms},
+    {"--errors", WORD, take_errors},
+    {"--on-deadlock", WORD, take_deadlock},
+    {"--on-report", WORD, take_on_report},
+    {"--gdb", ALONE, take_gdb},
+    {"--quiet", ALONE, take_quiet},
+    {"--show", WORD, take_target},
+    {"--trace", WORD, take_trace},
+    {"--clean", WORD, take_clean},
+    {"--help", ALONE, take_help},
 };
 
 static const struct option *option_of(const char *word)
@@ -291,12 +292,14 @@ static char **read_options(struct options *options, char **words)
         if (strcmp(*words, "--") == 0)
             return words + 1;
         const struct option *option = option_of(*words);
-        if (!option->has_word) {
+        if (option->after == ALONE) {
             option->take(options, NULL);
             continue;
         }
         if (!words[1])
             refuse("%s needs a word after it", *words);
+        if (option->after == OUTPUT)
+            written_name_check(*words, words[1]);
         option->take(options, *++words);
     }
     return words;

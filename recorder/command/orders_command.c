@@ -16,6 +16,7 @@
 #include "prepare.h"
 #include "report_text.h"
 #include "usage.h"
+#include "written.h"
 
 enum { FOUND = 1, FAILED = 126 };
 
@@ -48,6 +49,14 @@ static const char *word_after(char ***words)
     return *++*words;
 }
 
+/* The file to be written. */
+static const char *file_after(char ***words)
+{
+    const char *option = **words, *file = word_after(words);
+    written_name_check(option, file);
+    return file;
+}
+
 static char **read_options(struct wanted *wanted, char **words, bool is_judge)
 {
     *wanted = (struct wanted){0};
@@ -55,13 +64,13 @@ static char **read_options(struct wanted *wanted, char **words, bool is_judge)
         if (strcmp(*words, "--") == 0)
             return words + 1;
         if (!is_judge && strcmp(*words, "-o") == 0)
-            wanted->to = word_after(&words);
+            wanted->to = file_after(&words);
         else if (is_judge && strcmp(*words, "--ignore") == 0)
             wanted->ignore = word_after(&words);
         else if (is_judge && strcmp(*words, "--graph") == 0)
-            wanted->drawing.graph = word_after(&words);
+            wanted->drawing.graph = file_after(&words);
         else if (is_judge && strcmp(*words, "--html") == 0)
-            wanted->drawing.html = word_after(&words);
+            wanted->drawing.html = file_after(&words);
         else if (is_judge && strcmp(*words, "--gen-suppressions") == 0)
             wanted->suppressions = true;
         else
@@ -96,8 +105,8 @@ static int merge(char **words)
     struct wanted wanted;
     char **files = read_options(&wanted, words, false), *why = NULL;
     char *path = wanted.to ? learnt_path(wanted.to) : NULL;
-    int lock = path ? learnt_lock(path) : -1;
-    if (path && lock < 0)
+    int lock = -1;
+    if (path && !learnt_lock(path, &lock))
         fail("%s.lock can't be written: %s", path, strerror(errno));
     read_files(&learnt, files);
     if (path)

@@ -1,6 +1,5 @@
 #include "output.h"
 
-#include <fcntl.h>
 #include <stdarg.h>
 #include <stdio.h>
 #include <stdlib.h>
@@ -9,6 +8,7 @@
 
 #include "memory.h"
 #include "write_all.h"
+#include "written.h"
 
 /* The log's name with the process's number for each %p. */
 static char *log_name(const char *log, long process)
@@ -31,10 +31,10 @@ static char *log_name(const char *log, long process)
 }
 
 /* What can't be written to the log stays on standard error. The children of this process write to the log, too. */
-static void open_log(const char *log, long process, int flags)
+static void open_log(const char *log, long process, enum written_from from)
 {
     char *name = log_name(log, process);
-    int file = open(name, O_WRONLY | O_CREAT | O_APPEND | O_CLOEXEC | flags, 0666);
+    int file = written_open(name, from);
     if (file >= 0) {
         dup2(file, STDERR_FILENO);
         close(file);
@@ -51,14 +51,14 @@ void output_begin(struct output *output, const char *log, long process)
 {
     *output = (struct output){.log = log && *log ? log : NULL};
     if (output->log)
-        open_log(output->log, process, output_is_parted(output) ? 0 : O_TRUNC);
+        open_log(output->log, process, output_is_parted(output) ? WRITTEN_BEHIND : WRITTEN_ANEW);
 }
 
 void output_turns_to(struct output *output, long speaker, long process)
 {
     output->speaker = speaker;
     if (output_is_parted(output))
-        open_log(output->log, speaker ? speaker : process, 0);
+        open_log(output->log, speaker ? speaker : process, WRITTEN_BEHIND);
 }
 
 /* The lines, each after the number of its process. */

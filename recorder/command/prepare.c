@@ -16,6 +16,7 @@
 #include "learn.h"
 #include "memory.h"
 #include "usage.h"
+#include "written.h"
 
 /* The reserve is what replaying needs where the recording fills the disk. */
 enum { RESERVE_BYTES = 1 << 18, MAPPED_BYTES = 4096, LOT = 12 };
@@ -71,24 +72,6 @@ static void check_ignore(const char *path)
     fclose(file);
 }
 
-/* Whether the file that is to be written can be. */
-static void check_output(const char *path)
-{
-    struct stat found;
-    if (stat(path, &found) == 0) {
-        if (S_ISDIR(found.st_mode))
-            refuse("%s is a directory", path);
-        if (access(path, W_OK) != 0)
-            refuse("%s can't be written", path);
-        return;
-    }
-    int file = open(path, O_WRONLY | O_CREAT | O_CLOEXEC, 0666);
-    if (file < 0)
-        refuse("%s can't be written", path);
-    close(file);
-    unlink(path);
-}
-
 /* The name of the log, as it would be of this process; %p is the number. */
 static char *log_name(const char *log)
 {
@@ -108,20 +91,20 @@ void prepare_files(const struct settings *settings)
     if (is_asked(settings->ignore))
         check_ignore(settings->ignore);
     if (is_asked(settings->keep))
-        check_output(settings->keep);
+        written_check(settings->keep);
     if (is_asked(settings->graph))
-        check_output(settings->graph);
+        written_check(settings->graph);
     if (is_asked(settings->html))
-        check_output(settings->html);
+        written_check(settings->html);
     if (is_asked(settings->sarif))
-        check_output(settings->sarif);
+        written_check(settings->sarif);
     if (is_asked(settings->json))
-        check_output(settings->json);
+        written_check(settings->json);
     if (learn_is_wanted(settings))
         learn_check(settings);
     if (is_asked(settings->log)) {
         char *name = log_name(settings->log);
-        check_output(name);
+        written_check(name);
         free(name);
     }
 }

@@ -13,6 +13,7 @@
 #include "replaying.h"
 #include "trace_lines.h"
 #include "write_all.h"
+#include "written.h"
 
 enum { BUFFER_BYTES = 1 << 16 };
 
@@ -130,7 +131,7 @@ bool trace_is_copied(const struct process *process, const char *path)
 {
     struct trace trace;
     struct trace_line line;
-    FILE *to = fopen(path, "we");
+    FILE *to = written_file(path);
     if (!to)
         return false;
     bool is_good = trace_open(&trace, process->trace);

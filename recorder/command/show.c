@@ -21,6 +21,7 @@
 #include "telling.h"
 #include "whole_run.h"
 #include "workplace.h"
+#include "written.h"
 
 static const char empty_trace[] = "witness-trace 1 seats 1 types 1 locks 1 chunks 1\n";
 
@@ -128,7 +129,7 @@ static void look_around(struct run *run)
 static void keep_empty_trace(const struct run *run)
 {
     const char *keep = run->settings.keep;
-    FILE *to = run->shown == 0 && is_asked(keep) ? fopen(keep, "we") : NULL;
+    FILE *to = run->shown == 0 && is_asked(keep) ? written_file(keep) : NULL;
     if (!to)
         return;
     fputs(empty_trace, to);

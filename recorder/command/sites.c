@@ -59,8 +59,11 @@ const struct place *chosen_place(const struct declared *declared, const struct p
 
 const char *function_of(const struct declared *declared, const struct place *place)
 {
-    const char *function = code_of(declared, place)->function;
-    return function ? function : place->function;
+    const struct code *code = code_of(declared, place);
+    /* Where no line is known the tools name the nearest symbol before the address, which may have ended by then. */
+    if (code->count == 0 && !place->function)
+        return NULL;
+    return code->function ? code->function : place->function;
 }
 
 char *unknown_place(const struct declared *declared, const struct place *place)

@@ -29,7 +29,7 @@ size_t telling_frame(const struct code *code, size_t from);
 bool place_says(const struct declared *declared, const struct place *place);
 /* Of a place that stands for two the one that says something; any other one is its own. */
 const struct place *chosen_place(const struct declared *declared, const struct place *place);
-/* The function there as the source names it where the symbols know that; NULL where it has no name. */
+/* The function there as the source names it where the symbols know that; NULL where it isn't known. */
 const char *function_of(const struct declared *declared, const struct place *place);
 /* OBJECT+OFFSET(FUNCTION), a text of one's own. */
 char *unknown_place(const struct declared *declared, const struct place *place);

@@ -139,7 +139,7 @@ const struct object_file *binary_file(struct binary *binary)
 struct debug_info *binary_debug(struct binary *binary)
 {
     if (!binary->has_debug)
-        binary->debug = debug_info_open(binary->path, binary_file(binary)->build_id);
+        binary->debug = debug_info_open(binary->path);
     binary->has_debug = true;
     return binary->debug;
 }
@@ -192,10 +192,20 @@ static void make_room(struct symbols *symbols)
         tool_ends(&oldest->tool);
 }
 
+/* The file that has its lines. The tools find what is in the file system, and don't ask the net. */
+static char *file_of_lines(struct binary *binary)
+{
+    const char *net = getenv("DEBUGINFOD_URLS");
+    const struct debug_info *debug = net && *net ? binary_debug(binary) : NULL;
+    const char *file = debug ? debug_info_file(debug) : NULL;
+    return file ? (char *)file : binary->path;
+}
+
 static bool has_reader(struct binary *binary)
 {
-    char *of_clang[] = {"llvm-addr2line", "-a", "-f", "-i", "-C", "-e", binary->path, NULL};
-    char *of_others[] = {"addr2line", "-a", "-f", "-i", "-C", "-e", binary->path, NULL};
+    char *file = file_of_lines(binary);
+    char *of_clang[] = {"llvm-addr2line", "-a", "-f", "-i", "-C", "-e", file, NULL};
+    char *of_others[] = {"addr2line", "-a", "-f", "-i", "-C", "-e", file, NULL};
     binary->used = ++binary->symbols->uses;
     if (binary->tool.process != 0)
         return true;

@@ -19,6 +19,7 @@
 #include "replay.h"
 #include "report_text.h"
 #include "version.h"
+#include "written.h"
 
 enum { REPLAYED_MOST = 1, NOT_RUN = 126, NOT_FOUND = 127 };
 
@@ -275,6 +276,11 @@ static void keep_trace(struct process *process)
     const char *keep = run->settings.keep;
     if (!is_asked(keep) || !trace_is_there(process, "it isn't kept"))
         return;
+    if (run->shown > 0 && written_is_special(keep)) {
+        if (run->shown == 1)
+            say(&run->output, "%s isn't a regular file: it has the trace of the first process alone", keep);
+        return;
+    }
     char *file = run->shown > 0 ? say_text("%s.%zu", keep, run->shown) : copy(keep);
     if (!trace_is_copied(process, file))
         say(&run->output, "%s can't be written: the trace isn't kept", file);
