@@ -141,6 +141,8 @@ static void take_out(struct thread *thread, struct held *held)
 /* Takes out what the thread holds by its chain alone: another thread released it, or it was made anew. */
 COLD static void drop_lost(struct thread *thread)
 {
+    if (thread->repeated.lingers)
+        repeat_ends(thread);
     thread->lost_seen = atomic_load(&lost_total);
     for (uint32_t i = thread->count; i-- > 0;) {
         struct held *held = &thread->held[i];
@@ -180,18 +182,23 @@ static bool may_recur(const struct held *held, const struct request *request)
 static void consider(struct request *request)
 {
     if (request->again) {
-        if (may_recur(request->again, request))
+        if (may_recur(request->again, request)) {
             write_again(request, request->again);
-        else
+            /* A reader comes behind writers that wait, where the lock prefers them: these wait for it. */
+            request->patient = request->mode == SHARED;
+        } else {
             request->again_refused = request->patient = true;
+        }
         return;
     }
     request->parent = last_node(request->thread);
     request->node = node_of(request->parent, request->lock->type->number);
     bool known = node_is_requested(request->node);
-    if (!known)
+    bool waits = request->repeats && !request->pending;
+    if (!known || waits)
         request->stack = stack_of(request->caller);
-    if (!known || writes_all)
+    request->patient = waits;
+    if (!known || waits || writes_all)
         write_request(request);
     else
         request->patient = true;
@@ -199,6 +206,8 @@ static void consider(struct request *request)
         order_noted(request);
     /* All of the request is written: the process may end here. */
     judge_tells(request->caller);
+    if (waits)
+        judge_waits(request);
 }
 
 static __attribute__((noinline)) bool begins(struct request *request, const void *address, enum class class,
@@ -224,9 +233,11 @@ static __attribute__((noinline)) bool begins(struct request *request, const void
     request->mode = mode;
     request->tried = asking == TRIES;
     request->timed = asking == ASKS_FOR_A_TIME;
-    request->ends_wait = false;
-    request->patient = request->again_refused = false;
+    request->ends_wait = request->repeats = false;
+    request->patient = request->again_refused = request->waited_for_itself = false;
     request->pending = 0;
+    if (UNLIKELY(request->timed || thread->repeated.lingers))
+        repeat_counts(request);
     if (!request->tried && (thread->count != 0 || writes_all))
         consider(request);
     return true;
@@ -263,9 +274,12 @@ static void waits_aside(void *argument)
 {
     struct request *request = argument;
     request->stack = stack_of(request->caller);
+    request->waited_for_itself = request->again_refused;
     if (request->again_refused)
         write_waits_for_itself(request);
-    else if (!request->again && (streams_have_files() || judge_watches_waits()))
+    else if (request->again)
+        write_waits_behind(request);
+    else if (streams_have_files() || judge_watches_waits())
         write_request(request);
     judge_tells(request->caller);
     judge_waits(request);
@@ -323,6 +337,8 @@ static __attribute__((noinline)) void ends(struct request *request, bool got)
         take_as_tried(request);
     if (UNLIKELY(request->again != NULL) && got && request->again_refused) {
         /* The lock was given up by another thread while this one waited. */
+        if (request->waited_for_itself)
+            write_goes_on(request);
         drop_lost(thread);
         request->again = held_of(thread, request->lock);
         request->node = 0;
@@ -331,12 +347,16 @@ static __attribute__((noinline)) void ends(struct request *request, bool got)
     if (LIKELY(got && !request->again)) {
         add_held(request);
     } else if (!got) {
-        if (request->pending)
+        if (request->pending && !request->repeats)
             write_given_up(request);
+        if ((request->timed || request->repeats) && !request->again && thread->count != 0)
+            repeat_noted(request);
     } else if (may_recur(request->again, request)) {
         request->again->count++;
         request->again->place = request->place;
         request->again->stack = (uint16_t)request->stack;
+        if (request->pending >> CONDENSED & 1)
+            write_waits_behind_no_more(request);
         if (writes_all)
             write_acquired(request, request->again);
     }
@@ -397,6 +417,8 @@ static __attribute__((noinline)) void release(const void *address, struct caller
     if (UNLIKELY(!opens(thread, caller.stack)))
         return;
     struct held *held = held_at(thread, address);
+    if (UNLIKELY(thread->repeated.lingers))
+        repeat_ends(thread);
     if (LIKELY(held != NULL)) {
         released(thread, held);
     } else if (thread->unseen) {
@@ -445,6 +467,8 @@ bool wait_begins(struct request *request, const void *address, bool asks_again, 
         goes_outside(thread);
         return false;
     }
+    if (thread->repeated.lingers)
+        repeat_ends(thread);
     memset(request, 0, sizeof *request);
     request->thread = thread;
     request->lock = held->lock;
@@ -487,6 +511,7 @@ void chains_forked(void)
     struct thread *thread = &self;
     madvise(nodes, NODES * sizeof *nodes, MADV_DONTNEED);
     nodes_made = 0;
+    thread->repeated = (struct repeated){0};
     for (int stream = 0; stream < STREAMS; stream++)
         thread->seat[stream] = thread->last_seat[stream] = thread->written[stream] = thread->asked[stream] = 0;
     for (uint32_t i = 0; i < thread->count; i++) {

@@ -7,7 +7,7 @@
 #define RECORDER_FORMAT_H
 
 /* The first line of a stream is `asked 0 version N missed`, then the names of the counts, each with its count. */
-#define FORMAT_VERSION 4
+#define FORMAT_VERSION 5
 #define WORD_ASKED "asked"
 #define WORD_VERSION "version"
 #define WORD_MISSED "missed"
@@ -57,6 +57,7 @@ enum { ASKED_AT = 6, ASKED_NOT = '0', ASKED_NOW = '1', ASKED_ALWAYS = '3' };
 
 /* What a trace has no line for. */
 #define WORD_AGAIN "again"
+#define WORD_WENT "went"
 #define WORD_FOREIGN "foreign"
 #define WORD_ANSWER "answer"
 #define WORD_HOLDER "holder"
