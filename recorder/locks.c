@@ -6,6 +6,7 @@
  * stands in an object, else the callers of its first use. Records are found by their address without the mutex: they
  * are chained by pieces of memory, so that a freed block finds the locks that were in it.
  */
+#include "label.h"
 #include "quick.h"
 
 #include <malloc.h>
@@ -483,6 +484,14 @@ void locks_freed(const void *block)
         recorder_leaves();
     }
     self.state = OPEN;
+}
+
+bool type_label_was_met(const struct type *type)
+{
+    for (uint32_t i = 1; i < type->number; i++)
+        if (types[i].label && labels_part(types[i].label, type->label))
+            return true;
+    return false;
 }
 
 uint32_t lock_youngest(void)
