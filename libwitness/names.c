@@ -4,6 +4,7 @@
  * without debug information, and that its file of --ignore may have. What the program names by itself has that name: a
  * type, and a place by its file and line.
  */
+#include "label.h"
 #include "names.h"
 
 #include <stdio.h>
@@ -224,12 +225,22 @@ static void put_with_tail(char to[NAME_ROOM], const char *text, const char *tail
     snprintf(to, NAME_ROOM, "%.*s%s", (int)(NAME_ROOM - 1 - strlen(tail)), text, tail);
 }
 
+/* With its column where an earlier type has the label but for that. */
+static void add_label(char to[NAME_ROOM], const struct type *type)
+{
+    size_t column = label_column(type->label);
+    if (column == 0 || type_label_was_met(type))
+        add(to, NAME_ROOM, type->label);
+    else
+        snprintf(to, NAME_ROOM, "%.*s)", (int)column, type->label);
+}
+
 /* What the type is called where no other one is. */
 static void put_type(char to[NAME_ROOM], const struct type *type)
 {
     *to = '\0';
     if (type->label)
-        add(to, NAME_ROOM, type->label);
+        add_label(to, type);
     else if (type->object)
         add_variable(to, NAME_ROOM, type->object, type->address);
     for (uint32_t i = 0; !type->label && !type->object && i < DEPTH_MOST && type->places[i]; i++) {

@@ -141,6 +141,8 @@ static void take_out(struct thread *thread, struct held *held)
 /* Takes out what the thread holds by its chain alone: another thread released it, or it was made anew. */
 COLD static void drop_lost(struct thread *thread)
 {
+    if (thread->repeated.lingers)
+        repeat_ends(thread);
     thread->lost_seen = atomic_load(&lost_total);
     for (uint32_t i = thread->count; i-- > 0;) {
         struct held *held = &thread->held[i];
@@ -176,33 +178,45 @@ static bool may_recur(const struct held *held, const struct request *request)
                                    : held->mode == EXCLUSIVE && request->lock->recursive;
 }
 
-/* Nothing like it was asked for before. */
+/* Nothing like it was asked for before, or it is repeated for so long that it counts as a wait. */
 static void write_new(void *argument)
 {
     struct request *request = argument;
-    if (!node_is_requested(request->node))
+    if (!node_is_requested(request->node) || request->repeats)
         request->stack = stack_of(request->caller);
     write_request(request);
+}
+
+static void look_for_circle(void *request)
+{
+    judge_waits(request);
 }
 
 /* Whether a request that may block, by a thread that holds something, has to be written; and writes it then. */
 static void consider(struct request *request)
 {
     if (request->again) {
-        if (may_recur(request->again, request))
+        if (may_recur(request->again, request)) {
             write_again(request, request->again);
-        else
+            /* A reader comes behind writers that wait, where the lock prefers them: these wait for it. */
+            request->patient = request->mode == SHARED;
+        } else {
             request->again_refused = request->patient = true;
+        }
         return;
     }
     request->parent = last_node(request->thread);
     request->node = node_of(request->parent, request->lock->type->number);
-    if (!node_is_requested(request->node) || writes_all)
+    bool waits = request->repeats && !request->pending;
+    request->patient = waits;
+    if (!node_is_requested(request->node) || waits || writes_all)
         aside(write_new, request);
     else
         request->patient = true;
     if (request->node && request->thread->count != 0)
         order_noted(request);
+    if (waits)
+        aside(look_for_circle, request);
 }
 
 /* A request that begins; its place where that is known and no stack is wanted there, else 0. */
@@ -230,9 +244,11 @@ static void fill(struct request *request, const struct beginning *it, struct loc
     request->mode = it->mode;
     request->tried = it->asking == TRIES;
     request->timed = it->asking == ASKS_FOR_A_TIME;
-    request->ends_wait = false;
-    request->patient = request->again_refused = false;
+    request->ends_wait = request->repeats = false;
+    request->patient = request->again_refused = request->waited_for_itself = false;
     request->pending = 0;
+    if (UNLIKELY(request->timed || thread->repeated.lingers))
+        repeat_counts(request);
 }
 
 static inline void begin_inside(struct beginning *it, struct lock *lock)
@@ -309,9 +325,12 @@ static void waits_aside(void *argument)
 {
     struct request *request = argument;
     request->stack = stack_of(request->caller);
+    request->waited_for_itself = request->again_refused;
     if (request->again_refused)
         write_waits_for_itself(request);
-    else if (!request->again && (streams_have_files() || judge_watches_waits()))
+    else if (request->again)
+        write_waits_behind(request);
+    else if (streams_have_files() || judge_watches_waits())
         write_request(request);
     judge_waits(request);
 }
@@ -366,6 +385,8 @@ static __attribute__((noinline)) void ends(struct request *request, bool got)
         take_as_tried(request);
     if (UNLIKELY(request->again != NULL) && got && request->again_refused) {
         /* The lock was given up by another thread while this one waited. */
+        if (request->waited_for_itself)
+            write_goes_on(request);
         drop_lost(thread);
         request->again = held_of(thread, request->lock);
         request->node = 0;
@@ -374,12 +395,16 @@ static __attribute__((noinline)) void ends(struct request *request, bool got)
     if (LIKELY(got && !request->again)) {
         add_held(request);
     } else if (!got) {
-        if (request->pending)
+        if (request->pending && !request->repeats)
             write_given_up(request);
+        if ((request->timed || request->repeats) && !request->again && thread->count != 0)
+            repeat_noted(request);
     } else if (may_recur(request->again, request)) {
         request->again->count++;
         request->again->place = request->place;
         request->again->stack = (uint16_t)request->stack;
+        if (request->pending >> CONDENSED & 1)
+            write_waits_behind_no_more(request);
         if (writes_all)
             write_acquired(request, request->again);
     }
@@ -440,6 +465,8 @@ static __attribute__((noinline)) void release(const void *address, struct caller
     if (UNLIKELY(!opens(thread, caller.stack)))
         return;
     struct held *held = held_at(thread, address);
+    if (UNLIKELY(thread->repeated.lingers))
+        repeat_ends(thread);
     if (LIKELY(held != NULL)) {
         released(thread, held);
     } else if (thread->unseen) {
@@ -499,6 +526,8 @@ static bool wait_opens(struct request *request, const void *address, bool asks_a
         goes_outside(thread);
         return false;
     }
+    if (thread->repeated.lingers)
+        repeat_ends(thread);
     memset(request, 0, sizeof *request);
     request->thread = thread;
     request->lock = held->lock;
@@ -574,6 +603,7 @@ void chains_forked(void)
     struct thread *thread = &self;
     madvise(nodes, NODES * sizeof *nodes, MADV_DONTNEED);
     nodes_made = 0;
+    thread->repeated = (struct repeated){0};
     for (int stream = 0; stream < STREAMS; stream++)
         thread->seat[stream] = thread->last_seat[stream] = thread->written[stream] = thread->asked[stream] = 0;
     for (uint32_t i = 0; i < thread->count; i++) {

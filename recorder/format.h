@@ -63,6 +63,7 @@ enum { ASKED_AT = 6, ASKED_NOT = '0', ASKED_NOW = '1', ASKED_ALWAYS = '3' };
 
 /* What a trace has no line for. */
 #define WORD_AGAIN "again"
+#define WORD_WENT "went"
 #define WORD_FOREIGN "foreign"
 #define WORD_ANSWER "answer"
 #define WORD_HOLDER "holder"

@@ -6,6 +6,7 @@
  * stands in an object, else the callers of its first use. Records are found by their address without the mutex: they
  * are chained by pieces of memory, so that a freed block finds the locks that were in it.
  */
+#include "label.h"
 #include "quick.h"
 
 #include <malloc.h>
@@ -525,6 +526,14 @@ void locks_freed(const void *block)
     struct block freed = {at, end};
     aside(free_locks_in, &freed);
     self.state = OPEN;
+}
+
+bool type_label_was_met(const struct type *type)
+{
+    for (uint32_t i = 1; i < type->number; i++)
+        if (types[i].label && labels_part(types[i].label, type->label))
+            return true;
+    return false;
 }
 
 uint32_t lock_youngest(void)

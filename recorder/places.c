@@ -370,9 +370,11 @@ COLD static void unwind(struct caller caller, struct stack *stack)
 {
     stack->wanted = caller;
     stack->count = 0;
-    _Unwind_Backtrace(keep_frame, stack);
+    /* From code that was compiled while the program ran no way leads on. */
+    if (has_tables(caller.pc))
+        _Unwind_Backtrace(keep_frame, stack);
     if (stack->count == 0)
-        stack->frames[stack->count++] = (struct frame){caller.pc, caller.stack, 0, false};
+        stack->frames[stack->count++] = (struct frame){caller.pc, caller.stack, caller.base, false};
     uintptr_t last = stack->frames[stack->count - 1].pc;
     bool blind = stack->count < FRAMES && !has_tables(last);
     if (!objects_are_found())

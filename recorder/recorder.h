@@ -4,6 +4,7 @@
  *
  *   calls.c     the interposed calls of pthread, C11 and the C library; ways.h, what they share
  *   others.c    those of GLib and OpenMP, where the program has them; rebind.c puts them there
+ *   repeats.c   requests with a time limit that are made again and again
  *   singles.c   the orders of single locks
  *   errors.c    errors in the use of locks that aren't orders
  *   annotations.c  what a program tells of its own locks by witness.h
@@ -198,6 +199,20 @@ struct held {
 /* What `how` is of a lock that was acquired once, in that mode, and isn't written; and its bit `after_try`. */
 #define HOW_ONCE(mode) ((uint64_t)(mode) << 32 | 1)
 #define HOW_AFTER_TRY ((uint64_t)1 << 38)
+/*
+ * A bit of `written` beside those of the streams: since the lock was acquired, a request with a time limit has ended without
+ * its lock (repeats.c). What is released quickly isn't written, so such a lock isn't.
+ */
+#define KEPT_ON (1u << STREAMS)
+
+/* The request with a time limit that a thread made last and that ended without its lock (repeats.c). */
+struct repeated {
+    uint64_t locks; /* what it asked for, behind what it held; 0 where there is none */
+    uint32_t place;
+    bool lingers;   /* its line stands as one that waits, though the thread is in no call */
+    uint8_t times;  /* how often one came to linger */
+    int64_t since;  /* when it ended first, in milliseconds */
+};
 
 /*
  * Whether the thread is inside the recorder: then its state is the stack pointer of the interposed call's caller, by
@@ -229,6 +244,7 @@ struct thread {
     uint32_t made_at; /* how many threads had been made and joined before */
     uint32_t grand, maker_at; /* the same of its maker: who made that one, and when */
     bool has_orders;  /* that stand in a stream */
+    struct repeated repeated;
     struct waiter *waiter, *last_waiter; /* where it waits for a condition, NULL else; and where it did last (waiters.c) */
 };
 
@@ -244,9 +260,11 @@ struct request {
     uint32_t node;      /* of the chain with the lock; 0 where it wasn't looked for */
     uint8_t mode;
     bool tried, timed;
+    bool repeats;       /* it has a time limit, and counts as one without (repeats.c) */
     bool ends_wait;     /* for the mutex of a condition, when the wait for it ends */
     bool patient;       /* not written though it may block: to be written after a second */
     bool again_refused; /* the thread holds the lock, and it isn't one to be acquired again */
+    bool waited_for_itself; /* that was written */
     uint8_t pending;    /* a bit for each stream */
     uint32_t number[STREAMS];
 };
@@ -452,6 +470,8 @@ void object_gone(uintptr_t from, uintptr_t to);
 void lock_given_up(struct lock *lock);
 /* The serial number of the youngest lock; and those up to that one which were there are gone. Nothing is read there. */
 uint32_t lock_youngest(void);
+/* Whether an earlier type has the type's label but for the column. Under the mutex. */
+bool type_label_was_met(const struct type *type);
 void locks_left(uintptr_t from, uintptr_t to, uint32_t youngest);
 /* The first held mutex whose record has that number or a higher one; *at becomes its number. Under the mutex. */
 struct lock *lock_held_from(uint32_t *at, int32_t *holder);
@@ -589,6 +609,11 @@ extern _Atomic uint32_t threads_in_making; /* counted already, and maybe not the
 
 void threads_forked(void);
 
+/* repeats.c; all of them inside */
+bool repeat_counts(struct request *request);
+void repeat_noted(const struct request *request); /* it ended without its lock */
+void repeat_ends(struct thread *thread);
+
 /* singles.c */
 bool singles_made(void);
 void singles_forked(void);
@@ -640,6 +665,9 @@ void write_given_up(struct request *request);
 void write_left(struct thread *thread);
 void write_unlock(struct thread *thread, struct held *held, bool whole);
 void write_waits_for_itself(struct request *request);
+void write_goes_on(const struct request *request);
+void write_waits_behind(struct request *request);
+void write_waits_behind_no_more(struct request *request);
 void write_released_by_another(struct thread *thread, struct lock *lock, uint32_t place);
 void write_error(struct thread *thread, enum lock_error error, struct lock *lock, uint32_t place); /* inside */
 enum order_line { ORDER_NEW, ORDER_AGAIN, ORDER_NOT_KEPT };

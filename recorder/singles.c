@@ -11,7 +11,7 @@
  *
  * When something was is told by how many threads had been made and joined before. A lock is three words: its number in
  * the trace, 0 where it has none; its serial number, which no other lock has; and its mode, with a `t` where it was tried,
- * an `l` where it is asked for with a time limit, and a `w` where it is asked for again as a wait for a condition ends. A held
+ * an `l` where it is asked for with a time limit, a `p` where that is done again and again (repeats.c), and a `w` where it is asked for again as a wait for a condition ends. A held
  * lock has a `u` where it was acquired while the lock was held that is asked for now.
  *
  * A chain of locks is told of when it is first asked for, and when a second thread does so. As long as one thread has
@@ -32,6 +32,8 @@ enum { LIVES = 256 };
 
 /* What parts the orders by requests with a time limit from those without. */
 #define FOR_A_TIME 0x5bd1e9955bd1e995u
+/* And those that are repeated for so long that they count as requests without one. */
+#define REPEATED 0x9fb21c651e98df25u
 /* And those as a wait for a condition ends; and those by which held locks were acquired under what is asked for. */
 #define AS_A_WAIT_ENDS 0x2545f4914f6cdd1du
 #define UNDER_IT 0xd6e8feb86659fd93u
@@ -202,7 +204,8 @@ static uint64_t way_of(const struct request *request)
     uint64_t under = 0;
     for (uint32_t i = 0; i < thread->count; i++)
         under = under << 1 | order_is_under(&thread->held[i], request);
-    return under * UNDER_IT ^ (request->ends_wait ? AS_A_WAIT_ENDS : request->timed ? FOR_A_TIME : 0);
+    uint64_t limit = request->repeats ? REPEATED : request->timed ? FOR_A_TIME : 0;
+    return under * UNDER_IT ^ (request->ends_wait ? AS_A_WAIT_ENDS : limit);
 }
 
 static uint64_t locks_of(const struct request *request)

@@ -249,6 +249,15 @@ void start(void)
     errno = before;
 }
 
+/* Whether a handler of signals called, on a stack that the program gave for that. One that was set by a bare call isn't remembered. */
+static bool is_on_other_stack(const struct thread *thread, uintptr_t stack)
+{
+    stack_t other = {.ss_sp = (void *)thread->other_stack, .ss_size = thread->other_size};
+    if (thread->other_size == 0 && real.sigaltstack(NULL, &other) != 0)
+        return false;
+    return !(other.ss_flags & SS_DISABLE) && stack - (uintptr_t)other.ss_sp <= other.ss_size;
+}
+
 /*
  * Whether the call that the thread is inside of was left: by a jump out of a handler of signals, or a cancellation. Not
  * where the caller is a handler on another stack than that call was.
@@ -257,7 +266,7 @@ static bool has_left(const struct thread *thread, uintptr_t stack)
 {
     if (thread->state == STARTING || is_aside(stack))
         return false;
-    if (thread->other_size && stack - thread->other_stack <= thread->other_size)
+    if (is_on_other_stack(thread, stack))
         return false;
     return stack >= thread->state || !call_goes_on(thread->state);
 }

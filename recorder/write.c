@@ -390,18 +390,23 @@ COLD void write_acquired(struct request *request, struct held *held)
 }
 
 /* What the thread asks for isn't asked for any longer. */
+static void give_up_in(int stream, struct thread *thread)
+{
+    uint32_t number = thread->asked[stream];
+    if (number == 0)
+        return;
+    thread->asked[stream] = 0;
+    write_call(stream, WORD_GIVEUP, thread, number);
+    end_call(stream);
+    judge_gave_up(stream, thread, number);
+    stands_no_more(stream, thread, number);
+}
+
 static void give_up(struct thread *thread)
 {
-    for (int stream = 0; stream < STREAMS; stream++) {
-        uint32_t number = thread->asked[stream];
-        if (number == 0)
-            continue;
-        thread->asked[stream] = 0;
-        write_call(stream, WORD_GIVEUP, thread, number);
-        end_call(stream);
-        judge_gave_up(stream, thread, number);
-        stands_no_more(stream, thread, number);
-    }
+    for (int stream = 0; stream < STREAMS; stream++)
+        give_up_in(stream, thread);
+    thread->repeated.lingers = false;
 }
 
 /* After the real call, which didn't get the lock. */
@@ -469,6 +474,55 @@ COLD void write_waits_for_itself(struct request *request)
     recorder_leaves();
 }
 
+/*
+ * The thread has the lock as a reader, and has waited for a second to have it once more. The full stream has that already.
+ * When it gets it, the condensed one has it as given up: what is acquired again isn't in it.
+ */
+COLD void write_waits_behind(struct request *request)
+{
+    struct thread *thread = request->thread;
+    const struct held *held = request->again;
+    if (!writes[CONDENSED] || !recorder_enters())
+        return;
+    if (stream_has_room(CONDENSED) && seat_taken(CONDENSED, thread)) {
+        write_chain(CONDENSED, thread);
+        if (held->written & bit(CONDENSED)) {
+            uint32_t number = held->number[CONDENSED];
+            write_check(CONDENSED, thread, number, request->mode, request->place, request->stack);
+            request->number[CONDENSED] = thread->asked[CONDENSED] = number;
+            request->pending |= bit(CONDENSED);
+            stands(CONDENSED, thread, number);
+        }
+        seat_given_back(CONDENSED, thread);
+    }
+    recorder_leaves();
+}
+
+COLD void write_waits_behind_no_more(struct request *request)
+{
+    if (!recorder_enters())
+        return;
+    give_up_in(CONDENSED, request->thread);
+    request->pending &= (uint8_t)~bit(CONDENSED);
+    recorder_leaves();
+}
+
+/* `went SEAT LOCK`: it waits for that lock no more, which another thread has released. */
+COLD void write_goes_on(const struct request *request)
+{
+    const struct held *held = request->again;
+    if (!recorder_enters())
+        return;
+    for (int stream = 0; stream < STREAMS; stream++) {
+        if (!(held->written & bit(stream)) || !stream_has_room(stream))
+            continue;
+        write_call(stream, WORD_WENT, request->thread, held->number[stream]);
+        put_text(stream, "\n");
+        stream_append(stream, false);
+    }
+    recorder_leaves();
+}
+
 /* `foreign SEAT LOCK PLACE`: the thread releases what it doesn't hold. One line for each place; all are counted. */
 COLD void write_released_by_another(struct thread *thread, struct lock *lock, uint32_t place)
 {
@@ -523,7 +577,7 @@ void write_order(struct request *request, enum order_line line)
             put_lock(stream, thread, held->lock, held->mode, held->tried ? "t" : "");
             put_text(stream, order_is_under(held, request) ? "u" : "");
         }
-        put_lock(stream, thread, request->lock, request->mode, request->ends_wait ? "w" : request->timed ? "l" : "");
+        put_lock(stream, thread, request->lock, request->mode, request->ends_wait ? "w" : request->repeats ? "p" : request->timed ? "l" : "");
         put_text(stream, line == ORDER_AGAIN ? "r\n" : "\n");
         stream_append(stream, false);
         seat_given_back(stream, thread);

@@ -13,6 +13,7 @@ A lock of one's own is told by a Watched. For Python 3.8 and later, CPython, wit
 
 import ctypes
 import dis
+import itertools
 import os
 import sys
 import threading
@@ -275,6 +276,13 @@ def _label(frame, what):
     return None, frame
 
 
+def _column(frame):
+    """`:COLUMN` of the call that the frame is in, or nothing before Python 3.11."""
+    positions = getattr(frame.f_code, "co_positions", None)
+    column = next(itertools.islice(positions(), frame.f_lasti // 2, None))[2] if positions and frame.f_lasti >= 0 else None
+    return "" if column is None else ":%d" % (column + 1)
+
+
 # What locks that are made at an instruction are called, and where they come from.
 _labels = {}
 
@@ -291,7 +299,7 @@ def _made(frame, how, what):
         name, named = _label(frame, what)
         file = named.f_code.co_filename
         line = 0 if name else named.f_lineno or 0
-        text = name or "%s (%s:%d)" % (what, os.path.basename(file), line)
+        text = name or "%s (%s:%d%s)" % (what, os.path.basename(file), line, _column(named))
         known = text[:_LABEL_MOST].encode("utf-8", "replace"), _number(os.fsencode(file), line, b""), frame.f_code
         if named is frame:
             _labels[key] = known

@@ -1,5 +1,7 @@
 """What locks are called by where they go. No recorder is needed: the names are kept here."""
 
+import re
+import sys
 import threading
 
 import witness
@@ -53,8 +55,12 @@ Deep()
 local()
 wanted = """Pool.shared names.alone names.a names.b names.c names.d names.e names.f names.g names.by_lambda names.by_lambda
 Pool.first Pool.second Pool.third Pool.many Pool.many Pool.pair Pool.pair Pool.by_name Pool.table Pool.ready Pool.given
-Pool.made Lock_(names.py:30) Pool.one Pool.words local().alone local().left local().right Lock_(names.py:42)"""
+Pool.made Lock_(names.py:32) Pool.one Pool.words local().alone local().left local().right Lock_(names.py:44)"""
 wanted = [word.replace("_(", " (") for word in wanted.split()]
+# From 3.11 on a lock without a name has its column.
+ends = [re.search(r":[0-9]+(:[0-9]+)?\)$", name) for name in names]
+assert {bool(end.group(1)) for end in ends if end} == {sys.version_info >= (3, 11)}
+names = [re.sub(r"(:[0-9]+):[0-9]+\)$", r"\1)", name) for name in names]
 for has, wants in zip(names, wanted):
     if has != wants:
         print("named %s in place of %s" % (has, wants))

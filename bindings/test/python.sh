@@ -15,6 +15,10 @@ python_tests() {
     tell python "two locks in opposite orders, $version" $?
     told orders.python "$python" orders.py
     tell python "other kinds of locks, $version" $?
+    if "$python" -c 'import sys; sys.exit(sys.version_info < (3, 11))'; then
+        told oneline.python "$python" oneline.py
+        tell python "two locks that one line makes, $version" $?
+    fi
     "$python" same.py >same.plain && RECORD_FRAMES=1 "$record" --log-file log -- "$python" same.py | diff same.plain -
     tell python "what locks answer, $version" $?
     options="--full --judge" told crowd "$python" crowd.py

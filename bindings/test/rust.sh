@@ -17,6 +17,8 @@ if wanted rust cargo; then
         tell rust "two locks in opposite orders, $kind" $?
         told orders "$work/target/$kind/examples/orders"
         tell rust "other kinds of locks, $kind" $?
+        told oneline "$work/target/$kind/examples/oneline"
+        tell rust "two locks that one line makes, $kind" $?
     done
     # Each line of a full trace stands where the real step can have been.
     options="--full --judge" told contend "$work/target/release/examples/contend" && [ "$(cat recorded.out)" = "8000 2000 8000" ]

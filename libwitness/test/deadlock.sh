@@ -57,6 +57,18 @@ END
     tell deadlock "a wait for a condition that comes late, while threads wait for what its thread holds" $?
     WITNESS=1 WITNESS_ON_DEADLOCK=exit=3 timeout -s KILL 100 ./conditions left >out 2>err && [ "$(cat out)" = ended ] && [ ! -s err ]
     tell deadlock "a wait for a condition that is left by a jump" $?
+    # A request with a time limit that is repeated waits as one without.
+    compile hung $linked
+    for word in repeats both; do
+        WITNESS=1 WITNESS_ON_DEADLOCK=exit=3 timeout -s KILL 100 ./hung $word >out 2>err
+        [ $? -eq 3 ] && [ "$(grep -c '^circle:$' err)" -eq 1 ] && ! grep -q 'with a time limit' err &&
+            grep -q '^ seat [12] waits for "pool" held by seat [12]$' err && grep -q '^ seat [12] waits for "journal" held by seat [12]$' err
+        tell deadlock "requests with a time limit without an end: $word" $?
+    done
+    for word in backs gives; do
+        WITNESS=1 WITNESS_ON_DEADLOCK=exit=3 timeout -s KILL 100 ./hung $word >out 2>err && grep -qx 'all went on' out
+        tell deadlock "requests with a time limit that end: $word" $?
+    done
     hangs short exut=3 && grep -q '^witness: WITNESS_ON_DEADLOCK is tell, kill or exit=N up to 255, not exut=3: ' err
     tell deadlock "a wrong word" $?
 fi

@@ -83,7 +83,8 @@ bool is_current(const struct sources *sources, const char *file)
     char *own = say("%s%s", sources->folder, sources_of(file)), *builder = say("%s/builder", sources->folder);
     bool is = !has_later(builder, true, &found) && !has_later(own, !is_library(file), &found);
     if (!is_library(file))
-        is = is && !is_later_in(sources->folder, "format.h", true, &found);
+        is = is && !is_later_in(sources->folder, "format.h", true, &found) &&
+            !is_later_in(sources->folder, "label.h", true, &found);
     free(builder);
     free(own);
     return is;

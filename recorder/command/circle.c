@@ -89,6 +89,85 @@ static void add_wait(struct scene *scene, const char *told)
     free(name);
 }
 
+/*
+ * Readers that wait. The verifier's world lets a reader in beside others. One that isn't let in comes behind a writer, who
+ * waits for all that read: so it waits for each of these. The writer needn't be in the trace.
+ */
+struct walk {
+    const struct holdings *holdings;
+    unsigned path[SEATS_MOST + 1], length;
+    bool was_there[SEATS_MOST + 1];
+};
+
+/* Whether both are readers. */
+static bool is_behind(const struct seat *waits, const struct seat *has)
+{
+    for (size_t i = 0; i < has->count; i++)
+        if (has->held[i].lock == waits->asked)
+            return waits->asked_shared && has->held[i].shared;
+    return false;
+}
+
+/* What a thread holds itself it may acquire again, but as a reader behind a writer. */
+static bool is_waited_for(const struct seat *waits, const struct seat *has)
+{
+    for (size_t i = 0; i < has->count; i++)
+        if (has->held[i].lock == waits->asked)
+            return has != waits || is_behind(waits, has);
+    return false;
+}
+
+/* Whether the way on from the seat at its end comes round to its beginning. */
+static bool comes_round(struct walk *walk)
+{
+    unsigned last = walk->path[walk->length - 1];
+    for (unsigned next = 1; walk->holdings->seat[last].asked && next <= SEATS_MOST; next++) {
+        if (!is_waited_for(&walk->holdings->seat[last], &walk->holdings->seat[next]))
+            continue;
+        if (next == walk->path[0])
+            return true;
+        if (walk->was_there[next])
+            continue;
+        walk->was_there[next] = true;
+        walk->path[walk->length++] = next;
+        if (comes_round(walk))
+            return true;
+        walk->length--;
+    }
+    return false;
+}
+
+/* ` seat N waits for "NAME" ..`, for each seat of the circle. */
+static void add_walk(struct scene *scene, const struct walk *walk)
+{
+    reports_add(&scene->process->reports, REPORT_CIRCLE, "circle:");
+    for (unsigned i = 0; i < walk->length; i++) {
+        unsigned seat = walk->path[i], next = walk->path[(i + 1) % walk->length];
+        const struct seat *waits = &walk->holdings->seat[seat];
+        const char *lock = notes_lock(&scene->process->notes, waits->asked)->name;
+        char *told = say_text(" seat %u waits for \"%s\" %s seat %u", seat, lock,
+            is_behind(waits, &walk->holdings->seat[next]) ? "behind a writer, who waits for" : "held by", next);
+        add_wait(scene, told);
+        free(told);
+    }
+}
+
+static void add_circle_of_readers(struct scene *scene)
+{
+    struct walk *walk = take(sizeof *walk);
+    walk->holdings = &scene->holdings;
+    for (unsigned first = 1; first <= SEATS_MOST; first++) {
+        memset(walk->was_there, 0, sizeof walk->was_there);
+        walk->path[0] = first;
+        walk->length = 1;
+        if (comes_round(walk)) {
+            add_walk(scene, walk);
+            break;
+        }
+    }
+    free(walk);
+}
+
 /* A circle of threads that wait for one another, where the verifier finds one. */
 static void add_circle(struct scene *scene)
 {
@@ -109,6 +188,8 @@ static void add_circle(struct scene *scene)
             add_wait(scene, whole);
             free(whole);
         }
+    } else {
+        add_circle_of_readers(scene);
     }
     free(told);
 }
@@ -124,7 +205,8 @@ static void add_again(struct scene *scene, size_t number)
     if (again->seat > SEATS_MOST)
         return;
     char *label = thread_label(thread);
-    reports_add(&scene->process->reports, REPORT_SELF, "a thread waited for a lock that it held itself:");
+    reports_add(&scene->process->reports, REPORT_SELF, "a thread waited for a lock that it held itself:")->is_over =
+        again->is_over;
     char *heading = say_text(" seat %u%s waited for \"%s\"", again->seat, label, lock);
     add_line(scene, LINE_WAITS, again->seat, lock, heading, (struct piece){site, (int)strlen(site)});
     add_held(scene, again->seat, thread);

@@ -24,6 +24,20 @@ void deadlock_end(struct deadlock *deadlock)
     *deadlock = (struct deadlock){0};
 }
 
+/* Whether threads, or one, can't go on. */
+static bool is_circle(const struct report *report)
+{
+    return report->kind == REPORT_CIRCLE || (report->kind == REPORT_SELF && !report->is_over);
+}
+
+static bool waits_for_itself(const struct notes *notes)
+{
+    for (size_t i = 0; i < notes->events; i++)
+        if (notes->event[i].kind == EVENT_AGAIN && !notes->event[i].is_over)
+            return true;
+    return false;
+}
+
 /* The circles of the process as they are told, a text of one's own; NULL where there is none. */
 static char *circles_of(struct process *process)
 {
@@ -34,7 +48,7 @@ static char *circles_of(struct process *process)
     add_circles(process);
     unlink(process->trace);
     for (size_t i = 0; to && i < process->reports.count; i++)
-        if (process->reports.report[i].kind == REPORT_CIRCLE)
+        if (is_circle(&process->reports.report[i]))
             report_write(to, &process->reports.report[i], process->run->settings.frames > 1, false);
     if (to)
         fclose(to);
@@ -44,6 +58,18 @@ static char *circles_of(struct process *process)
     return NULL;
 }
 
+/* Whether the thread came to ask for that lock of the order again and again. */
+static bool is_repeated(const struct single *single, const struct single_order *timed)
+{
+    for (size_t i = 0; i < single->orders; i++) {
+        const struct single_order *order = &single->order[i];
+        const struct single_lock *lock = &order->lock[order->locks - 1];
+        if (lock->repeated && order->thread == timed->thread && lock->serial == timed->lock[timed->locks - 1].serial)
+            return true;
+    }
+    return false;
+}
+
 /* Whether a thread of a circle may wait for the lock with a time limit. */
 static bool waits_for_a_time(const struct process *process, const struct report_line *line)
 {
@@ -51,7 +77,7 @@ static bool waits_for_a_time(const struct process *process, const struct report_
     for (size_t i = 0; i < notes->single.orders; i++) {
         const struct single_order *order = &notes->single.order[i];
         const struct single_lock *lock = &order->lock[order->locks - 1];
-        if (lock->timed && (lock->number == 0 || lock->number > notes->locks
+        if (lock->timed && !is_repeated(&notes->single, order) && (lock->number == 0 || lock->number > notes->locks
                 || strcmp(notes->lock[lock->number - 1].name, line->name) == 0))
             return true;
     }
@@ -70,18 +96,31 @@ static bool may_end(const struct process *process)
     return false;
 }
 
-static void act(struct process *process)
+/* Whether several threads wait. */
+static bool has_circle(const struct process *process)
+{
+    for (size_t i = 0; i < process->reports.count; i++)
+        if (process->reports.report[i].kind == REPORT_CIRCLE)
+            return true;
+    return false;
+}
+
+/* False where the circle may end by itself: it is to be looked at again. */
+static bool act(struct process *process)
 {
     struct run *run = process->run;
     const char *word = run->settings.on_deadlock;
     int status = 0;
-    if (!word || !deadlock_word(word, &status) || strcmp(word, "tell") == 0 || may_end(process))
-        return;
-    say(&run->output, "%s (process %ld) is ended: its threads wait for one another", process->name,
-        process->recording->process);
+    if (!word || !deadlock_word(word, &status) || strcmp(word, "tell") == 0)
+        return true;
+    if (may_end(process))
+        return false;
+    say(&run->output, "%s (process %ld) is ended: %s", process->name, process->recording->process,
+        has_circle(process) ? "its threads wait for one another" : "a thread of it waits for a lock that it holds");
     if (status)
         run->deadlock_status = status;
     kill((pid_t)process->recording->process, SIGKILL);
+    return true;
 }
 
 static void tell_circle(struct process *process, const char *text)
@@ -90,27 +129,29 @@ static void tell_circle(struct process *process, const char *text)
     run_has_word(run, process->recording->process);
     tell_report(&run->output, text, strlen(text));
     for (size_t i = 0; i < process->reports.count; i++)
-        if (process->reports.report[i].kind == REPORT_CIRCLE)
+        if (is_circle(&process->reports.report[i]))
             follow_keeps(run, process->recording->name, report_lines(&process->reports.report[i]), copy(""));
-    act(process);
 }
 
 void deadlock_look(struct process *process, struct deadlock *deadlock, long long now)
 {
-    char *circle = process->resolved && process->notes.pending > 0 ? circles_of(process) : NULL;
+    bool is_there = process->resolved && (process->notes.pending > 0 || waits_for_itself(&process->notes));
+    char *circle = is_there ? circles_of(process) : NULL;
     if (!circle) {
         deadlock_end(deadlock);
         return;
     }
     if (!deadlock->circle || strcmp(deadlock->circle, circle) != 0) {
         deadlock_end(deadlock);
-        *deadlock = (struct deadlock){circle, now, false};
+        *deadlock = (struct deadlock){circle, now, false, false};
         return;
     }
     if (deadlock_is_due(deadlock, now)) {
         deadlock->is_told = true;
         tell_circle(process, circle);
     }
+    if (deadlock->is_told && !deadlock->is_over)
+        deadlock->is_over = act(process);
     free(circle);
 }
 

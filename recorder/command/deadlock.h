@@ -11,6 +11,7 @@ struct deadlock {
     char *circle;    /* as it would be told; NULL where there is none */
     long long since; /* when it was seen first, in microseconds */
     bool is_told;
+    bool is_over;    /* what --on-deadlock says was done, or nothing is to be */
 };
 
 /* Whether there is a circle to be looked at again, though nothing was written meanwhile. */

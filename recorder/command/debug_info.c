@@ -18,6 +18,8 @@ enum {
     ATTRIBUTE_DECLARATION = 0x3c,
     ATTRIBUTE_SPECIFICATION = 0x47,
     ATTRIBUTE_TYPE = 0x49,
+    ATTRIBUTE_CALL_COLUMN = 0x57,
+    ATTRIBUTE_CALL_LINE = 0x59,
     ATTRIBUTE_RANGES = 0x55,
     OPERATION_ADDRESS = 0x03,
     OPERATION_NUMBERED = 0xa1, /* an address by its number in a table */
@@ -159,6 +161,11 @@ int entry_line(const struct entry *entry)
 {
     int line = 0;
     return libdw.line(libdw_raw(entry), &line) == 0 ? line : 0;
+}
+
+bool entry_call(const struct entry *entry, uint64_t *line, uint64_t *column)
+{
+    return number_of(entry, ATTRIBUTE_CALL_LINE, line) && number_of(entry, ATTRIBUTE_CALL_COLUMN, column);
 }
 
 static bool is_around(enum entry_kind kind)

@@ -75,11 +75,18 @@ bool entry_address(const struct entry *entry, uint64_t *address);
 /* The file and the line in which it is declared: NULL and 0 where that isn't known. */
 const char *entry_file(const struct entry *entry);
 int entry_line(const struct entry *entry);
+/* Of what was inlined: the line and the column of its call. False where they aren't known. */
+bool entry_call(const struct entry *entry, uint64_t *line, uint64_t *column);
 /* The name with those of the classes and namespaces around it, as a text of one's own. */
 char *entry_whole_name(const struct entry *entry, const char *own);
 
 /* The unit of compilation that has the address in its code. */
 bool debug_info_unit(struct debug_info *info, uint64_t address, struct entry *unit);
+/*
+ * The column of the call at that address, in the function of that number: 0 is the innermost of those that were inlined there.
+ * 0 where it isn't known, or isn't of that line.
+ */
+unsigned debug_info_column(struct debug_info *info, uint64_t address, size_t frame, unsigned long line);
 /* The functions of a unit that have code: a list that ends with the debug information. */
 const struct entry *debug_info_functions(struct debug_info *info, const struct entry *unit, size_t *count);
 /* A variable that is always at the same address. */

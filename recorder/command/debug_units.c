@@ -136,6 +136,45 @@ bool debug_info_unit(struct debug_info *info, uint64_t address, struct entry *un
     return false;
 }
 
+/* Where the innermost code at the address comes from. */
+static unsigned column_of_row(const struct entry *unit, uint64_t address, unsigned long line)
+{
+    void *row = libdw.row_at(libdw_raw(unit), address);
+    int at = 0, column = 0;
+    bool is_known = row && libdw.row_line(row, &at) == 0 && libdw.row_column(row, &column) == 0;
+    return is_known && at > 0 && (unsigned long)at == line && column > 0 ? (unsigned)column : 0;
+}
+
+/* Where the inlined function of that number was called; the innermost one is 1. */
+static unsigned column_of_call(const struct entry *unit, uint64_t address, size_t number, unsigned long line)
+{
+    struct entry *innermost = NULL, *scope = NULL;
+    uint64_t at, column = 0;
+    /* What is around an inlined function where it was inlined, and not where it is declared. */
+    int scopes = libdw.scopes_at(libdw_raw(unit), address, &innermost);
+    bool is_found = scopes > 0;
+    scopes = is_found ? libdw.scopes(innermost, &scope) : 0;
+    for (int i = 0; i < scopes && number > 0; i++) {
+        if (entry_kind(&scope[i]) != ENTRY_INLINED || --number > 0)
+            continue;
+        if (!entry_call(&scope[i], &at, &column) || at != line || column > UINT16_MAX)
+            column = 0;
+    }
+    if (scopes > 0)
+        free(scope);
+    if (is_found)
+        free(innermost);
+    return (unsigned)column;
+}
+
+unsigned debug_info_column(struct debug_info *info, uint64_t address, size_t frame, unsigned long line)
+{
+    struct entry unit;
+    if (!debug_info_unit(info, address, &unit))
+        return 0;
+    return frame == 0 ? column_of_row(&unit, address, line) : column_of_call(&unit, address, frame, line);
+}
+
 static bool may_have_functions(enum entry_kind kind)
 {
     return kind == ENTRY_NAMESPACE || kind == ENTRY_CLASS || kind == ENTRY_STRUCTURE || kind == ENTRY_UNION ||

@@ -1,6 +1,7 @@
 #include "declared.h"
 
 #include "../format.h"
+#include "columns.h"
 #include "memory.h"
 #include "names.h"
 #include "progress.h"
@@ -362,7 +363,7 @@ void declared_read(struct declared *declared, const struct stream *stream, struc
     struct line line;
     struct seats *seats = take(sizeof *seats);
     const char *at = stream->bytes, *end = stream->bytes + stream->length;
-    *declared = (struct declared){.symbols = symbols, .texts = texts_new()};
+    *declared = (struct declared){.symbols = symbols, .texts = texts_new(), .columns = columns_new()};
     seats->told = stream->told > 0 && stream->told < stream->length ? stream->bytes + stream->told : end;
     while (line_next(&line, &at, end)) {
         declared->lines++;
@@ -373,6 +374,7 @@ void declared_read(struct declared *declared, const struct stream *stream, struc
     for (size_t seat = 0; seat < SEAT_MOST; seat++)
         declared->pending += seats->is_pending[seat];
     free(seats);
+    columns_of_labels(declared);
     ask_symbols(declared);
 }
 
@@ -383,6 +385,7 @@ void declared_end(struct declared *declared)
     free(declared->stack);
     free(declared->type);
     texts_end(declared->texts);
+    columns_end(declared->columns);
     *declared = (struct declared){0};
 }
 

@@ -84,6 +84,7 @@ struct declared {
     bool is_odd;        /* a number in it can't be one */
     struct symbols *symbols;
     struct texts *texts;
+    struct columns *columns;
 };
 
 /* Reads it, and asks the symbols for all that is named in it. Tells how far it is where `progress` says so. */

@@ -4,12 +4,14 @@
 #ifndef RECORD_HOLDINGS_H
 #define RECORD_HOLDINGS_H
 
+#include <stdbool.h>
 #include <stddef.h>
 
 #include "trace_lines.h"
 
 struct holding {
     unsigned lock;
+    bool shared;
     struct piece place; /* where it was asked for last, or tried */
 };
 
@@ -17,6 +19,7 @@ struct seat {
     struct holding *held; /* a lock that it has got twice stands there twice */
     size_t count, room;
     unsigned asked;       /* the lock that it waits for; 0 where it waits for none */
+    bool asked_shared;
     struct piece asked_at;
 };
 

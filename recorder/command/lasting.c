@@ -1,5 +1,6 @@
 #include "lasting.h"
 
+#include "../label.h"
 #include "alike.h"
 #include "declared.h"
 #include "lasting_variables.h"
@@ -215,14 +216,13 @@ static void say_variable(struct making_name *name, bool is_array)
     }
 }
 
-/* The line at the end of a label, `(FILE:LINE)`, is left out: in place. */
+/* The line at the end of a label, `(FILE:LINE)`, and a column after it, is left out: in place. */
 static void leave_line_out(char *label)
 {
-    size_t length = strlen(label), end = length > 0 && label[length - 1] == ')' ? length - 1 : 0, at = end;
-    while (at > 0 && label[at - 1] >= '0' && label[at - 1] <= '9')
-        at--;
-    if (at > 0 && at < end && label[at - 1] == ':')
-        memmove(label + at - 1, label + end, length - end + 1);
+    size_t length = strlen(label), end = length > 0 && label[length - 1] == ')' ? length - 1 : 0;
+    size_t column = label_column(label), at = label_number(label, column > 0 ? column : end);
+    if (at > 0)
+        memmove(label + at, label + end, length - end + 1);
 }
 
 static void say_label(struct making_name *name)

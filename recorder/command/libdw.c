@@ -36,6 +36,10 @@ static const struct {
     {"dwarf_decl_file", &libdw.declared_in},
     {"dwarf_decl_line", &libdw.line},
     {"dwarf_dieoffset", &libdw.offset},
+    {"dwarf_getscopes", &libdw.scopes_at},
+    {"dwarf_getsrc_die", &libdw.row_at},
+    {"dwarf_lineno", &libdw.row_line},
+    {"dwarf_linecol", &libdw.row_column},
     {"dwarf_diecu", &libdw.unit},
 };
 

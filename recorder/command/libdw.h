@@ -64,6 +64,10 @@ struct libdw {
     const char *(*declared_in)(struct entry *);
     int (*line)(struct entry *, int *);
     uint64_t (*offset)(struct entry *);
+    int (*scopes_at)(struct entry *, uint64_t, struct entry **);
+    void *(*row_at)(struct entry *, uint64_t);
+    int (*row_line)(void *, int *);
+    int (*row_column)(void *, int *);
     void *(*unit)(struct entry *, struct entry *, uint8_t *, uint8_t *);
 };
 extern struct libdw libdw;

@@ -1,6 +1,7 @@
 #include "lock_names.h"
 
 #include "alike.h"
+#include "columns.h"
 #include "call_words.h"
 #include "declared.h"
 #include "locked.h"
@@ -138,6 +139,46 @@ static const char *text_at(const struct declared *declared, const struct step *s
     return statement && (!binary || statement->changed <= binary_file(binary)->changed) ? statement->text : NULL;
 }
 
+/* Of a line with several statements the one that the column is in: a text of one's own. */
+static char *part_at(const char *text, unsigned column)
+{
+    size_t wanted = column - 1, from = 0, at = 0;
+    long open = 0;
+    for (; text[at]; at++) {
+        open += (text[at] == '(' || text[at] == '[') - (text[at] == ')' || text[at] == ']');
+        if (open > 0 || !strchr(";{}", text[at]))
+            continue;
+        if (at >= wanted)
+            break;
+        from = at + 1;
+    }
+    return copy_bytes(text + from, at + (text[at] != '\0') - from);
+}
+
+char *call_name_at(const struct declared *declared, const struct step *step, const char *function)
+{
+    const char *text = text_at(declared, step);
+    if (!text || !function)
+        return NULL;
+    unsigned column = column_that_parts(declared, step->place, step->frame, step->site);
+    char *part = column > 0 && column <= strcspn(text, "\n") ? part_at(text, column) : NULL;
+    char *word = call_word(part ? part : text, function);
+    free(part);
+    return word;
+}
+
+/* Several locks are named there. If the call's column is known, it is one of its own statement. */
+static void read_part(struct locked *locked, const struct declared *declared, const struct step *step, const char *text)
+{
+    unsigned column = column_at(declared, step->place, step->frame, step->site);
+    if (column == 0 || column > strcspn(text, "\n"))
+        return;
+    char *part = part_at(text, column);
+    locked_end(locked);
+    locked_read(locked, part);
+    free(part);
+}
+
 static const struct lock_name_in_source *find(struct lock_names *names, const struct declared *declared,
     const struct step *step)
 {
@@ -148,6 +189,8 @@ static const struct lock_name_in_source *find(struct lock_names *names, const st
         return name;
     struct locked locked;
     locked_read(&locked, statement->text);
+    if (locked.count > 1)
+        read_part(&locked, declared, step, statement->text);
     find_member(names, declared, step, &locked, name);
     find_expression(names, &locked, text_at(declared, step) != NULL, name);
     locked_end(&locked);
@@ -162,12 +205,6 @@ struct alike *lock_names_alike(const struct lock_names *names)
 bool has_text_at(const struct declared *declared, const struct step *step)
 {
     return text_at(declared, step) != NULL;
-}
-
-char *call_name_at(const struct declared *declared, const struct step *step, const char *function)
-{
-    const char *text = text_at(declared, step);
-    return text && function ? call_word(text, function) : NULL;
 }
 
 static void find_function(struct lock_names *names, const struct declared *declared, const struct step *step,

@@ -48,6 +48,7 @@ struct event {
     const char *name;    /* of the thread, or of the lock; NULL where there is none */
     const char *maker;   /* the function that made the thread; NULL where that isn't known */
     const char *site;    /* where; NULL where that isn't known */
+    bool is_over;        /* of a thread that waited for itself: another one has released the lock since */
 };
 
 /* What a type is called besides. */

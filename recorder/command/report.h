@@ -44,6 +44,7 @@ struct report {
     struct report_line *line; /* the first says what it is */
     size_t lines, room;
     size_t first, last;       /* the numbers of the lines of the two locks whose types are at odds; 0 where there is none */
+    bool is_over;             /* the thread that waited for itself went on */
     char *silence;            /* the line of an ignore file that would silence it; NULL where none would */
 };
 

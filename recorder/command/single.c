@@ -28,8 +28,9 @@ static bool read_lock(const char **at, const char *end, struct single_lock *lock
     lock->serial = (uint32_t)serial;
     const char *how = *at + 1;
     lock->shared = *how == 's';
-    for (lock->timed = lock->ends_wait = lock->under = false; how < end && *how != ' '; how++) {
+    for (lock->timed = lock->repeated = lock->ends_wait = lock->under = false; how < end && *how != ' '; how++) {
         lock->timed |= *how == 'l';
+        lock->repeated |= *how == 'p';
         lock->ends_wait |= *how == 'w';
         lock->under |= *how == 'u';
         *again |= *how == 'r';
@@ -172,7 +173,7 @@ bool single_is_before(const struct single *single, const struct single_order *on
 
 static bool is_alike(const struct single_lock *one, const struct single_lock *other)
 {
-    return one->serial == other->serial && one->shared == other->shared && one->timed == other->timed
+    return one->serial == other->serial && one->shared == other->shared && one->timed == other->timed && one->repeated == other->repeated
         && one->ends_wait == other->ends_wait && one->under == other->under;
 }
 

@@ -13,6 +13,7 @@
 struct single_lock {
     uint32_t number, serial;
     bool shared, timed;
+    bool repeated;  /* it is asked for with a time limit, again and again: that counts as without one */
     bool ends_wait; /* it is asked for again as a wait for a condition ends */
     bool under;     /* it was acquired while the lock was held that is asked for */
 };

@@ -1,5 +1,6 @@
 #include "steps.h"
 
+#include "columns.h"
 #include "memory.h"
 #include "names.h"
 #include "sites.h"
@@ -23,7 +24,9 @@ static void add(struct walk *walk, struct step step)
 static void add_frame(struct walk *walk, const struct place *place, const struct code *code, size_t number)
 {
     const struct inlined *frame = &code->frame[number];
-    add(walk, (struct step){place, frame->site, base_of(frame->site), frame->function, frame->site, number});
+    unsigned column = column_that_parts(walk->declared, place, number, frame->site);
+    const char *site = column ? texts_say(walk->declared->texts, "%s:%u", frame->site, column) : frame->site;
+    add(walk, (struct step){place, site, base_of(site), frame->function, frame->site, number});
 }
 
 /* A place of which the symbols know no line. */

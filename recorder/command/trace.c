@@ -295,6 +295,22 @@ static void note_again(struct writing *writing, const struct line *line)
     event->site = site_of(writing->making->sites, place_in(line, 3));
 }
 
+/* The last wait of that seat is over. */
+static void note_went(struct writing *writing, const struct line *line)
+{
+    struct notes *notes = writing->notes;
+    uint32_t seat;
+    if (!notes || !field_number(line, 1, SEAT_MOST - 1, &seat))
+        return;
+    for (size_t i = notes->events; i > 0; i--) {
+        struct event *event = &notes->event[i - 1];
+        if (event->kind == EVENT_AGAIN && event->seat == seat) {
+            event->is_over = true;
+            return;
+        }
+    }
+}
+
 static void note_foreign(struct writing *writing, const struct line *line)
 {
     struct event *event = new_event(writing, EVENT_FOREIGN, line);
@@ -379,6 +395,7 @@ static const struct {
     {WORD_INIT, put_init},
     {WORD_THREAD, note_thread},
     {WORD_AGAIN, note_again},
+    {WORD_WENT, note_went},
     {WORD_FOREIGN, note_foreign},
     {WORD_HOLDER, note_holder},
     {WORD_ANSWER, note_answer},

@@ -1,5 +1,6 @@
 #include "types.h"
 
+#include "../label.h"
 #include "lock_names.h"
 #include "map.h"
 #include "memory.h"
@@ -145,11 +146,10 @@ static void read_variable_type(struct namer *namer, uint32_t number)
 /* The line at the end of a label, `(FILE:LINE)`, goes with the file's changes: it is left out, in place. */
 static void leave_line_out(char *label)
 {
-    size_t length = strlen(label), end = length > 0 && label[length - 1] == ')' ? length - 1 : 0, at = end;
-    while (at > 0 && label[at - 1] >= '0' && label[at - 1] <= '9')
-        at--;
-    if (at > 0 && at < end && label[at - 1] == ':')
-        memmove(label + at - 1, label + end, length - end + 1);
+    size_t length = strlen(label), end = length > 0 && label[length - 1] == ')' ? length - 1 : 0;
+    size_t column = label_column(label), at = label_number(label, column > 0 ? column : end);
+    if (at > 0)
+        memmove(label + at, label + end, length - end + 1);
 }
 
 /* A type that the program names: the place where it was made is its source, and no part of its name. */

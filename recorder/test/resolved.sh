@@ -4,7 +4,7 @@
 compile_resolved() {
     "${CC:-cc}" -std=c11 -D_GNU_SOURCE -g -O1 -fsanitize=address,undefined -fno-sanitize-recover=undefined \
         -Wall -Wextra -Werror -I"$recorder/command" -o resolved "$here/resolved.c" \
-        $(for part in memory texts map line names tool symbols stream notes declared sites frames types ignore trace single \
+        $(for part in memory columns texts map line names tool symbols stream notes declared sites frames types ignore trace single \
             progress place object_file source_lines source_text locked call_words alike lasting_variables type_names \
             libdw debug_info debug_units debug_types scopes values members variables lock_names steps lasting resolve; do echo "$recorder/command/$part.c"; done) -ldl
 }

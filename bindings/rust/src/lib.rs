@@ -13,7 +13,7 @@
 //!
 //! All signatures are std's, with its poisoning, and each lock does what std's does. Places are those of the calls
 //! (`#[track_caller]`), so the program needs no debug information. A lock's type is its Rust type and the place of its
-//! `new`: `Mutex<Vec<u64>> (bank.rs:3)`. Where no recorder is loaded, each call is a test of a pointer.
+//! `new`: `Mutex<Vec<u64>> (bank.rs:3:20)`. Where no recorder is loaded, each call is a test of a pointer.
 //!
 //! Any other lock is told by a [`Watched`] beside it; [`raw_mutex!`] and [`raw_rwlock!`] do that for those of `lock_api`. A
 //! program may listen itself, by [`set_hook`].

@@ -247,12 +247,12 @@ impl Default for Label {
 }
 
 impl Label {
-    /// `Mutex<Vec<u64>> (bank.rs:3)`. What is too long is cut in the type, not in the place.
+    /// `Mutex<Vec<u64>> (bank.rs:3:20)`. What is too long is cut in the type, not in the place.
     fn write(&mut self, name: &str, place: &Location<'_>) {
         let mut tail = Label::default();
         let file = place.file().rsplit('/').next().unwrap_or_default();
         // A longer one fails and is cut there.
-        let _ = write!(tail, " ({file}:{})", place.line());
+        let _ = write!(tail, " ({file}:{}:{})", place.line(), place.column());
         self.shorten(name, LABEL_MOST - tail.length);
         let _ = self.write_str(tail.text());
     }
@@ -318,7 +318,7 @@ mod tests {
         let mut label = Label::default();
         let place = Location::caller();
         label.write(&format!("Mutex<{}u8>", "a::Abcd, ".repeat(30)), place);
-        let tail = format!(" (watched.rs:{})", place.line());
+        let tail = format!(" (watched.rs:{}:{})", place.line(), place.column());
         assert!(label.text().len() > 56 && label.text().len() <= 63);
         assert!(label.text().starts_with("Mutex<Abcd, Abcd, ") && label.text().ends_with(&tail));
     }

@@ -74,7 +74,7 @@ fn a_mutex_is_told_by_its_type_and_its_places() {
         assert_eq!(mutex.into_inner().unwrap(), [2]);
     });
     let wanted =
-        [format!("made Mutex Mutex<Vec<i32>> (told.rs:{})", line + 2), format!("asked Exclusive {}", line + 3)];
+        [format!("made Mutex Mutex<Vec<i32>> (told.rs:{}:21)", line + 2), format!("asked Exclusive {}", line + 3)];
     assert_eq!(lines[..2], wanted);
     assert_eq!(lines[2..], ["acquired", "released", "destroyed"]);
 }
