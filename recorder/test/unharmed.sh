@@ -56,6 +56,14 @@ if wanted words; then
     else
         echo "left out  words: there is no objcopy"
     fi
+    compile leaving
+    name=$(printf 'leaving\nskip main')
+    cp leaving "$name"
+    "$record" -- "./$name" 2000 2>recorded.err
+    kept=$(sed -n 's/^record: the recording is kept: //p' recorded.err)
+    [ -n "$kept" ] && [ "$(grep -c '^skip ' "$kept/../settings")" -eq 1 ] && grep -qx 'program leaving%0askip main' "$kept/../settings"
+    tell words "the settings that a recording keeps" $?
+    [ -z "$kept" ] || rm -rf "$(dirname "$kept")"
     rm -rf records && mkdir records
     printf '#include <dlfcn.h>\nint main(void) { return dlopen("/none/x\\nP0000077 name forged loaded 1", RTLD_NOW) != 0; }\n' |
         "${CC:-cc}" -x c -o forges - -ldl &&
