@@ -111,6 +111,9 @@ static void thread_ends(void *round)
     }
     if (self.count == 0 || !goes_far_inside(HERE))
         return;
+    /* A thread that is gone asks for nothing. */
+    if (self.repeated.lingers)
+        repeat_ends(&self);
     if (recorder_enters()) {
         for (uint32_t i = 0; i < self.count; i++)
             if (stands_for_lock(&self.held[i]) && !is_robust(self.held[i].lock))
