@@ -158,6 +158,9 @@ static void thread_ends(void *round)
     }
     if (self.count == 0 || !goes_far_inside(HERE))
         return;
+    /* A thread that is gone asks for nothing. */
+    if (self.repeated.lingers)
+        repeat_ends(&self);
     aside(tell_held, NULL);
     goes_outside(&self);
 }

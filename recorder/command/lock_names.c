@@ -158,13 +158,7 @@ static char *part_at(const char *text, unsigned column)
 char *call_name_at(const struct declared *declared, const struct step *step, const char *function)
 {
     const char *text = text_at(declared, step);
-    if (!text || !function)
-        return NULL;
-    unsigned column = column_that_parts(declared, step->place, step->frame, step->site);
-    char *part = column > 0 && column <= strcspn(text, "\n") ? part_at(text, column) : NULL;
-    char *word = call_word(part ? part : text, function);
-    free(part);
-    return word;
+    return text && function ? call_word(text, function) : NULL;
 }
 
 /* Several locks are named there. If the call's column is known, it is one of its own statement. */

@@ -24,7 +24,8 @@ static void add(struct walk *walk, struct step step)
 static void add_frame(struct walk *walk, const struct place *place, const struct code *code, size_t number)
 {
     const struct inlined *frame = &code->frame[number];
-    unsigned column = column_that_parts(walk->declared, place, number, frame->site);
+    /* Of callers the line counts: objects of one class that a line makes are of one type. */
+    unsigned column = walk->steps->count == 0 ? column_that_parts(walk->declared, place, number, frame->site) : 0;
     const char *site = column ? texts_say(walk->declared->texts, "%s:%u", frame->site, column) : frame->site;
     add(walk, (struct step){place, site, base_of(site), frame->function, frame->site, number});
 }

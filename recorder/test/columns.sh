@@ -10,13 +10,13 @@ if wanted columns && has_libdw columns; then
             tell columns "two locks on a line ($compiler $level)" $?
         done
         # By lines a name has its column where another call stands on that line. Compilers mean its name, or its bracket.
-        for one in 12 11 16 5; do
-            for other in 28 32 36 40; do
-                echo "\"oneline.cc:25<oneline.cc:47:$one\" \"oneline.cc:25<oneline.cc:47:$other\""
+        for one in 5 23; do
+            for other in 37 55; do
+                echo "\"oneline.cc:34:$one\" \"oneline.cc:34:$other\""
             done
         done >list
-        "$record" --ignore list -- ./oneline 2>recorded.err
-        grep -q '^record: 1 report, ' recorded.err && ! grep -q 'made(mutex)' recorded.err
+        "$record" --depth 1 --ignore list -- ./oneline 2>recorded.err
+        grep -q '^record: 1 report, ' recorded.err && ! grep -q 'main(p)' recorded.err
         tell columns "their names by lines and columns ($compiler)" $?
     done
 fi

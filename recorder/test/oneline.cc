@@ -1,4 +1,4 @@
-/* Two locks that are locked, or made, on one line: of two classes and no call, by one call each, and by calls of one function. */
+/* Two locks that are locked, or made, on one line: of two classes and by no call, or by a call each. */
 #include <mutex>
 #include <pthread.h>
 struct U { std::mutex m; long n; };
@@ -19,15 +19,6 @@ __attribute__((noinline)) void both()
     pthread_mutex_lock(p); pthread_mutex_lock(q);
     pthread_mutex_unlock(q); pthread_mutex_unlock(p);
 }
-static pthread_mutex_t *made()
-{
-    pthread_mutex_t *mutex = new pthread_mutex_t;
-    pthread_mutex_init(mutex, nullptr);
-    return mutex;
-}
-
-static pthread_mutex_t *left, *right;
-
 __attribute__((noinline)) static void take(pthread_mutex_t *first, pthread_mutex_t *second)
 {
     pthread_mutex_lock(first);
@@ -44,7 +35,6 @@ int main()
     transfer(*u, *a);
     refund(*u2, *a2);
     both();
-    left = made(); right = made();
-    take(left, right);
-    take(right, left);
+    take(p, q);
+    take(q, p);
 }
