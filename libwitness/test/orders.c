@@ -27,6 +27,7 @@ static void cross(void)
 static void try_reversal(void)
 {
     IS(0, begin(&place));
+    TEXT("", wit_report_text(&place, to, room));
     IS(0, wit_reports(&place));
     cross();
     TEXT(reversal, wit_report_text(&place, to, room));

@@ -63,6 +63,7 @@ static void try_sizes(void)
         HOLDS(!place.full && place.at == NULL);
     }
     IS(0, wit_new(&place, &most, true, &none, 0, &pair, 0, &refused));
+    TEXT("", wit_report_text(&place, to, room));
     IS(1, mutex(&place, "a", ""));
     refused = 99;
     IS(WIT_FULL, wit_new(&place, &most, true, &none, 0, &pair, 0, &refused));
