@@ -62,7 +62,9 @@ static void try_sizes(void)
         IS(0, (int64_t)refused);
         HOLDS(!place.full && place.at == NULL);
     }
+    most_bytes = 0;
     IS(0, wit_new(&place, &most, true, &none, 0, &pair, 0, &refused));
+    HOLDS(most_bytes <= room_of(&most));
     TEXT("", wit_report_text(&place, to, room));
     IS(1, mutex(&place, "a", ""));
     refused = 99;
