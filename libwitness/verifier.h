@@ -17,7 +17,9 @@
  * - Pointers are aligned and lead to what their type says; a pointer with a length leads to as much as the length says,
  *   and isn't NULL even where the length is 0. Buffers overlap neither each other nor the place. No `bool` is other than
  *   0 or 1.
- * - No call comes from a handler of signals, nor in the child of a fork of a process with threads.
+ * - No handler of signals makes a call where it may have interrupted a call, or a function of the heap. Nor does a child of
+ *   a fork, where another thread may have been in one as the process forked. (libwitness forks under the mutex that each of
+ *   its calls has, and judges no call of a handler while its thread is in one.)
  * - The heap is three functions, below, of the program's own or of the kit's liblibc_c.a (malloc and its like).
  */
 #ifndef WITNESS_VERIFIER_H
@@ -83,6 +85,7 @@ enum {
 
 enum { WIT_SLEEP_MUTEX = 0, WIT_SPIN_MUTEX = 1, WIT_RW = 2, WIT_SX = 3 };    /* classes */
 enum { WIT_WATCH_OFF = -1, WIT_WATCH_QUIET = 0, WIT_WATCH_ON = 1 };          /* levels */
+/* Bits that have no name here are ignored, but in an assertion, which is WIT_INVALID with them. */
 enum { WIT_LOCK_RECURSABLE = 1, WIT_LOCK_DUPOK = 2 };                        /* flags of a lock */
 enum { WIT_OP_NEWORDER = 1, WIT_OP_DUPOK = 2, WIT_OP_FRESH = 4 };            /* of a request */
 enum { WIT_LA_UNLOCKED = 1, WIT_LA_LOCKED = 2, WIT_LA_SLOCKED = 4 };         /* of an assertion */
@@ -175,9 +178,12 @@ int64_t wit_type_of(struct wit_place *place, uint32_t lock);
  * stands at the buffer's front, with no NUL after it; the rest of the buffer stays. WIT_OUT_OF_MEMORY may be answered in
  * place of a text. The verifier isn't changed.
  *
- * wit_report_text is the report of the last call that was answered a reply or a fault, and empty where it wasn't reported;
- * wit_assert_text what wit_assert would answer, empty where that holds; wit_warn_text the locks that wit_warn would count;
- * wit_locks_text those of one seat; wit_circle_text seats that wait for one another in a circle, or "no circle".
+ * wit_report_text is the report of the last call, and empty where nothing was reported, or before the first call. That is
+ * the last one of wit_init to wit_set_watch that was answered a reply or a fault. Neither wit_file nor wit_assert, wit_warn
+ * and whatever only tells something is such a call; nor is one that is answered WIT_NO_SUCH.
+ *
+ * wit_assert_text is what wit_assert would answer, empty where that holds; wit_warn_text the locks that wit_warn would
+ * count; wit_locks_text those of one seat; wit_circle_text seats that wait for one another in a circle, or "no circle".
  */
 int64_t wit_report_text(struct wit_place *place, char *to, size_t room);
 int64_t wit_assert_text(struct wit_place *place, uint16_t seat, uint32_t lock, uint8_t flags, char *to, size_t room);
@@ -197,7 +203,8 @@ int64_t wit_path(struct wit_place *place, uint16_t from, uint16_t goal, uint16_t
 /*
  * The heap. `rattle_alloc` gives memory that is aligned to 16; `rattle_realloc` keeps what was there, up to the less of both
  * sizes. A size of 0 counts as ALIGN, which is 1 to 16. Where they refuse, `ok` is 0, `at` is any pointer but NULL, and
- * nothing has changed.
+ * nothing has changed. They return: none leaves by longjmp, by an exception or with its thread. They don't call wit_* with
+ * the place that they are called for. Calls with several places may be several threads' at once, and so may theirs.
  */
 struct rattle_memory {
     uint64_t ok;

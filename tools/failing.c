@@ -7,7 +7,7 @@
  *   WRITE_NOTHING=N  the Nth write to the standard output takes no byte
  *   ONE_BYTE=1       a read of the standard input gives one byte, and a write to the standard output takes one
  *   COUNTS=FILE      as the program ends, the file gets how many growths, reads and writes there were, the most bytes of memory
- *                    that were in use at once, and how many threads were started
+ *                    that were in use at once, how many threads were started, and how many growths these asked for
  * What is asked for before the program begins isn't counted.
  *
  * cc -O2 -shared -fPIC -o failing.so failing.c -ldl
@@ -34,7 +34,8 @@ static void *(*real_aligned)(size_t, size_t);
 static ssize_t (*real_read)(int, void *, size_t);
 static ssize_t (*real_write)(int, const void *, size_t);
 static int (*real_thread)(pthread_t *, const pthread_attr_t *, void *(*)(void *), void *);
-static atomic_ulong asked, reads, writes, threads;
+static atomic_ulong asked, reads, writes, threads, elsewhere;
+static pthread_t first;
 static atomic_long used, most;
 static unsigned long refused, failing_read, failing_write, empty_write, one_byte;
 static int counts;
@@ -71,6 +72,8 @@ static void find(void)
 /* Whether this growth is the one to refuse. */
 static int refuses(void)
 {
+    if (counts && !pthread_equal(pthread_self(), first))
+        atomic_fetch_add(&elsewhere, 1);
     return counts && atomic_fetch_add(&asked, 1) + 1 == refused;
 }
 
@@ -89,19 +92,20 @@ __attribute__((constructor)) static void begin(void)
     one_byte = number("ONE_BYTE");
     if (real_malloc == NULL)
         find();
+    first = pthread_self();
     counts = 1;
 }
 
 __attribute__((destructor)) static void end(void)
 {
     const char *name = getenv("COUNTS");
-    char text[100];
+    char text[120];
     int file;
     counts = 0;
     if (name == NULL || (file = open(name, O_WRONLY | O_CREAT | O_TRUNC, 0666)) < 0)
         return;
-    int length = snprintf(text, sizeof text, "%lu %lu %lu %ld %lu\n", (unsigned long)asked, (unsigned long)reads,
-                          (unsigned long)writes, (long)most, (unsigned long)threads);
+    int length = snprintf(text, sizeof text, "%lu %lu %lu %ld %lu %lu\n", (unsigned long)asked, (unsigned long)reads,
+                          (unsigned long)writes, (long)most, (unsigned long)threads, (unsigned long)elsewhere);
     if (real_write(file, text, (size_t)length) != length)
         syscall(SYS_exit_group, 99);
     close(file);

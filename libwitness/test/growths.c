@@ -65,12 +65,13 @@ static bool is_again(int64_t answer)
         is_text(__FILE__, __LINE__, answer_, to, (want));                      \
     } while (0)
 
+static const struct wit_sizes sizes = {.seats = 2, .types = 8, .locks = 16, .chunks = 4, .log = 4096};
+
 static int64_t start(uint64_t *refused)
 {
     static const struct wit_listed types[] = {{WIT_SLEEP_MUTEX, "A", 1}, {WIT_SX, "S", 1}};
     static const struct wit_list list = {types, 2};
     static const struct wit_pair pair = {"X", 1, "Y", 1};
-    static const struct wit_sizes sizes = {.seats = 2, .types = 8, .locks = 16, .chunks = 4, .log = 4096};
 
     return wit_new(&place, &sizes, true, &list, 1, &pair, 1, refused);
 }
@@ -138,6 +139,9 @@ static void tell_all(void)
     CALL(WIT_UNLOCKED, release(&place, 2, 2));
 }
 
+/* So much memory do the calls of a turn want beside what the verifier begins with: for names, the log and texts. */
+enum { CALLS_WANT = 16384 };
+
 /* Numbers are gathered with or without the room that is asked for first: so that refusal isn't told. */
 enum { NUMBERS_GATHERED = 2 };
 
@@ -147,12 +151,13 @@ void try_growths(void)
 
     do {
         refused_growth = ++number;
-        growths = told = 0;
+        growths = told = most_bytes = 0;
         make_all();
         take_all();
         tell_all();
         wit_free(&place);
         HOLDS(told <= 1);
+        HOLDS(most_bytes <= room_of(&sizes) + CALLS_WANT);
         IS(0, blocks_out);
         if (growths >= number)
             untold += 1 - told;

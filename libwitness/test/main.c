@@ -30,6 +30,13 @@ void is_text(const char *file, int line, int64_t length, const char *text, const
         length > 0 && length < 4096 ? (int)length : 0, text);
 }
 
+long room_of(const struct wit_sizes *sizes)
+{
+    long types = sizes->types;
+
+    return 4096 + 128L * sizes->seats + types * types / 2 + 96 * types + 160L * sizes->chunks;
+}
+
 int64_t begin(struct wit_place *place)
 {
     struct wit_sizes sizes = {.seats = 2, .types = 8, .locks = 16, .chunks = 4, .log = 4096};

@@ -23,14 +23,30 @@ static void cross(void)
     IS(WIT_REVERSAL, check(&place, 2, 1, true, 4));
 }
 
+/* What is no call that the log keeps leaves the report as it is. */
+static void try_kept(void)
+{
+    IS(2, wit_file(&place, "another", 7));
+    IS(-29, wit_file(&place, "", 0));
+    IS(WIT_HOLDS, wit_assert(&place, 2, 2, WIT_LA_XLOCKED));
+    IS(-2, wit_assert(&place, 2, 9, WIT_LA_XLOCKED));
+    IS(1, wit_warn(&place, 2, 0, 0));
+    IS(-1, wit_warn(&place, 9, 0, 0));
+    IS(WIT_NO_SUCH, lock_of(&place, 9, "c", 0));
+    IS(WIT_NO_SUCH, wit_set_watch(&place, 1, 7));
+    TEXT(reversal, wit_report_text(&place, to, room));
+}
+
 /* A reversal is reported once. */
 static void try_reversal(void)
 {
     IS(0, begin(&place));
+    TEXT("", wit_report_text(&place, to, room));
     IS(0, wit_reports(&place));
     cross();
     TEXT(reversal, wit_report_text(&place, to, room));
     IS(1, wit_reports(&place));
+    try_kept();
     IS(WIT_RECORDED, wit_note(&place, 2, 1));
     TEXT("", wit_report_text(&place, to, room));
     IS(WIT_UNLOCKED, release(&place, 2, 1));

@@ -62,7 +62,10 @@ static void try_sizes(void)
         IS(0, (int64_t)refused);
         HOLDS(!place.full && place.at == NULL);
     }
+    most_bytes = 0;
     IS(0, wit_new(&place, &most, true, &none, 0, &pair, 0, &refused));
+    HOLDS(most_bytes <= room_of(&most));
+    TEXT("", wit_report_text(&place, to, room));
     IS(1, mutex(&place, "a", ""));
     refused = 99;
     IS(WIT_FULL, wit_new(&place, &most, true, &none, 0, &pair, 0, &refused));
@@ -128,6 +131,33 @@ static void try_numbers(void)
     wit_free(&place);
 }
 
+/* Bits of flags that have no name are ignored, but in an assertion. */
+static void try_flags(void)
+{
+    enum { LOCK_BITS = 0xfc, OP_BITS = 0xf8, WARN_BITS = 0xfc };
+
+    IS(0, begin(&place));
+    IS(1, wit_init(&place, 1, "a1", 2, "A", 1, WIT_SLEEP_MUTEX, LOCK_BITS));
+    IS(2, wit_init(&place, 1, "a2", 2, "A", 1, WIT_SLEEP_MUTEX, LOCK_BITS));
+    IS(3, wit_init(&place, 1, "a3", 2, "A", 1, WIT_SLEEP_MUTEX, LOCK_BITS | WIT_LOCK_DUPOK));
+    IS(WIT_PASS, wit_check(&place, 1, 1, true, OP_BITS | WIT_OP_NEWORDER, 1, 1));
+    IS(WIT_RECORDED, wit_note(&place, 1, 1));
+    IS(WIT_PASS, wit_check(&place, 1, 3, true, OP_BITS | WIT_OP_NEWORDER, 1, 2));
+    IS(WIT_DONE, wit_give_up(&place, 1, 3));
+    IS(WIT_PASS, wit_check(&place, 1, 2, true, OP_BITS | WIT_OP_NEWORDER | WIT_OP_DUPOK, 1, 3));
+    IS(WIT_DONE, wit_give_up(&place, 1, 2));
+    IS(WIT_DUPLICATE, wit_check(&place, 1, 2, true, OP_BITS | WIT_OP_NEWORDER, 1, 4));
+    IS(WIT_DONE, wit_give_up(&place, 1, 2));
+    IS(4, lock_of(&place, WIT_SX, "s", 0));
+    IS(WIT_PASS, take(&place, 2, 4, 5));
+    IS(1, wit_warn(&place, 2, 0, WARN_BITS));
+    IS(0, wit_warn(&place, 2, 0, WARN_BITS | WIT_WARN_SLEEPOK));
+    IS(WIT_HOLDS, wit_assert(&place, 1, 1, WIT_LA_XLOCKED));
+    IS(WIT_INVALID, wit_assert(&place, 1, 1, WIT_LA_XLOCKED | 64));
+    IS(WIT_INVALID, wit_assert(&place, 1, 1, WIT_LA_XLOCKED | 128));
+    wit_free(&place);
+}
+
 /* Each room from none to all: the beginning of the text, and nothing after it. */
 static void try_rooms(void)
 {
@@ -173,6 +203,7 @@ void try_refusals(void)
     try_sizes();
     try_names();
     try_numbers();
+    try_flags();
     try_rooms();
     try_log();
 }

@@ -23,11 +23,14 @@ void is_text(const char *file, int line, int64_t length, const char *text, const
     } while (0)
 
 /*
- * The heap (heap.c): how many blocks are out, whether growths are counted, how many were, and which one of them is refused,
- * from 1.
+ * The heap (heap.c): how many blocks and bytes are out, the most bytes that were since this was set, whether growths are
+ * counted, how many were, and which one of them is refused, from 1.
  */
-extern long blocks_out, growths, refused_growth;
+extern long blocks_out, bytes_out, most_bytes, growths, refused_growth;
 extern bool growths_count;
+
+/* The most bytes that a verifier of these sizes begins with: four bits for each two types, five held locks a chunk. */
+long room_of(const struct wit_sizes *sizes);
 
 /* A small verifier: seats 2, types 8, locks 16, chunks 4. */
 int64_t begin(struct wit_place *place);

@@ -24,9 +24,14 @@ pub(crate) fn play<J: Room, R: Wait, G: Gate, K: Kind>(
         × (result.hold.seat.0 ≡ worker.old.seat.seat) }
     ensures seat { worker.new.seat.seat ≡ worker.old.seat.seat }
 {
-    if let Some(Reply::Adopted(parent, child)) = held.asked() {
-        let (parent, child) = (*parent, *child);
-        learn(place, worker, parent, child);
+    match held.asked() {
+        Some(Reply::Adopted(parent, child)) => learn(place, worker, *parent, *child),
+        Some(Reply::AdoptedAll(orders)) => {
+            if let Some((parent, child)) = orders.get().pairs().last().copied() {
+                learn(place, worker, parent, child);
+            }
+        }
+        _ => {}
     }
     match worker.random.below(8) {
         0 => recurse(place, worker, lock, held),

@@ -1,7 +1,8 @@
 //! Threads that take locks of all classes at random, with gates that refuse now and then, watch
 //! levels that are turned, orders that are defined, locks that are made and destroyed, and
 //! observers that learn and ask. Each makes all calls of the shared verifier once before. When they
-//! have ended, each seat's list is compared with what its thread did.
+//! have ended, each seat's list is compared with what its thread did. At every fifth seed the
+//! verifier compares a request with all locks that its seat holds.
 //!
 //! With the words `THREADS LOCKS ROUNDS SEED` it writes the log as a trace, and its reports to
 //! standard error: `tools/try-soak` has the trace replayed, which must tell the same, and counts
@@ -64,7 +65,13 @@ fn soak<R: Threads + Wait + Sync>(rt: &R, alloc: Global, plan: Plan) -> Result<S
     let Some(limits) = Limits::new(seats, TYPES, LOCKS, CHUNKS, ENTRIES) else {
         return Err(Fault::UnknownSeat);
     };
-    let verifier = match Verifier::new(alloc, limits, Vec::new(alloc), Vec::new(alloc)) {
+    let (lists, blessed) = (Vec::new(alloc), Vec::new(alloc));
+    let made = if plan.is_all_held() {
+        Verifier::new_all_held(alloc, limits, lists, blessed)
+    } else {
+        Verifier::new(alloc, limits, lists, blessed)
+    };
+    let verifier = match made {
         Ok(verifier) => verifier,
         Err(refused) => return Err(refused.fault),
     };

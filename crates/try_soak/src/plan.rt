@@ -20,6 +20,11 @@ pub(crate) struct Plan {
 }
 
 impl Plan {
+    /// Whether a request is compared with all held locks: at every fifth seed.
+    pub(crate) fn is_all_held(&self) -> bool {
+        self.seed % 5 == 0
+    }
+
     /// The plan of the words `THREADS LOCKS ROUNDS SEED`. With fewer it is a small one, of which no
     /// trace is written.
     pub(crate) fn of_words<R: Env>(rt: &R) -> Plan

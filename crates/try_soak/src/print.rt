@@ -8,7 +8,7 @@ use wit_model::{
     Call, Entry, Fault, FileName, FileNo, Line, LockLine, LockNo, Request, SeatNo, Verb, Version,
 };
 
-/// Writes the trace whose calls are those of a log. A writer that fails is told by what is missing.
+/// Writes the trace whose calls are those of a log, in the profile that it has. A writer that fails is told by what is missing.
 ///
 /// # Errors
 /// Want of memory.
@@ -16,9 +16,13 @@ pub(crate) fn print_history<W: Write>(
     alloc: Global,
     verifier: &Verifier,
     header: &Line,
+    all_held: bool,
     output: &mut W,
 ) -> Result<(), Fault> {
     put(alloc, header, output)?;
+    if all_held {
+        put(alloc, &Line::Profile, output)?;
+    }
     for entry in verifier.history() {
         put(alloc, &line_of(alloc, verifier, entry)?, output)?;
     }

@@ -26,7 +26,7 @@ pub(crate) fn tell<W: Write, E: Write>(
     let verifier = &soaked.verifier;
     if plan.traces {
         let line = header(u32::from(plan.threads) + 1, TYPES, LOCKS, CHUNKS);
-        print_history(alloc, verifier, &line, output)?;
+        print_history(alloc, verifier, &line, plan.is_all_held(), output)?;
         for entry in verifier.history() {
             let text = report_text(alloc, verifier, &entry.reply)?;
             let _ = complaints.write_all(text.as_bytes());

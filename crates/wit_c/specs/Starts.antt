@@ -1,8 +1,9 @@
 -- How C has a verifier begin.
 use Rattle.std.specs.Prelude.{ℕ, ℤ, pos, ◌≡◌, Bool, true, false, List, map, Option, None, Some}
-use Rattle.std.specs.Prelude.{is_some, unwrap_or}
+use Rattle.std.specs.Prelude.{is_some, unwrap_or, Ok}
 use Rattle.std.specs.Borrow.{Bor}
 use Rattle.std.specs.List.{list_all}
+use Rattle.wit_model.specs.declared.calls.Reply.TheVariants.{Pass}
 use Rattle.wit_model.specs.declared.faults.Fault.{Fault}
 use Rattle.wit_model.specs.declared.locks.Class.{Class}
 use Rattle.wit_model.specs.declared.locks.Class.TheVariants.{SleepMutex}
@@ -41,13 +42,14 @@ start_in profile sizes lists pairs = record {
   blessed = map pair_in pairs;
 }
 
--- the place has a verifier that begins so; or the start is refused, and the fault's number and its
--- list's are told
+-- the place has a verifier that begins so, and nothing is reported yet; or the start is refused, and
+-- the fault's number and its list's are told
 abbrev pub IsBegun : Start → ℤ → ℕ → Option Judge → Type 0
 IsBegun start n list None =
     (fault : Fault) × (IsRefused start list fault × (n ≡ fault_number fault))
 IsBegun start n list (Some judge) =
-    (start_fault start ≡ None) × ((judge.verifier ≡ fresh start) × ((n ≡ pos 0) × (list ≡ 0)))
+    (start_fault start ≡ None) × ((judge.verifier ≡ fresh start) × ((judge.last ≡ Ok Pass)
+    × ((n ≡ pos 0) × (list ≡ 0))))
 
 -- no verifier is made: that is the answer, no list is named, and the place stays
 abbrev pub IsUnmade : Option Judge → ℤ → ℤ → ℕ → Option Judge → Type 0

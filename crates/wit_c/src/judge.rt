@@ -1,9 +1,10 @@
 //! What a place holds: a verifier, and what it answered last.
 
-ghost use Rattle.std.specs.Prelude.{◌≡◌, Result};
+ghost use Rattle.std.specs.Prelude.{◌≡◌, Result, Ok};
 ghost use Rattle.std.specs.Option.{option_copied};
 ghost use Rattle.wit_core.specs.Replies.{new_lock};
 ghost use Rattle.wit_model.specs.declared.calls.Call.TheVariants.{Init};
+ghost use Rattle.wit_model.specs.declared.calls.Reply.TheVariants.{Pass};
 ghost use Rattle.wit_model.specs.declared.faults.Fault.{Fault};
 ghost use Rattle.wit_model.specs.declared.locks.FileNo.{FileNo};
 ghost use Rattle.wit_model.specs.Rules.Files.{NamesFile};
@@ -22,9 +23,10 @@ pub struct Judge {
 }
 
 impl Judge {
-    // One that has answered nothing.
+    // One that has answered nothing: there is nothing to report.
     pub(crate) fn new(verifier: Verifier) -> Judge
-        ensures { result.verifier ≡ verifier }
+        ensures verifier { result.verifier ≡ verifier }
+        ensures last { result.last ≡ Ok Pass }
     {
         Judge {
             verifier,

@@ -1,6 +1,7 @@
 //! How a verifier begins in a place, and how it ends.
 
-ghost use Rattle.std.specs.Prelude.{◌≡◌, ◌&&◌, None, IfOk, IfErr};
+ghost use Rattle.std.specs.Prelude.{◌≡◌, ◌&&◌, None, Ok, IfOk, IfErr};
+ghost use Rattle.wit_model.specs.declared.calls.Reply.TheVariants.{Pass};
 ghost use Rattle.wit_model.specs.Rules.Sizes.{sizes_of, are_within_limits};
 ghost use Rattle.wit_model.specs.Rules.Start.{start_fault, IsRefused};
 ghost use Rattle.wit_model.specs.Rules.State.{fresh};
@@ -99,6 +100,7 @@ fn begun(
         (start_in (profile_in all_held) limits lists.now blessed.now) ≡ None) }
     ensures fresh { IfOk result (λ judge. judge.value.verifier ≡ fresh
         (start_in (profile_in all_held) limits lists.now blessed.now)) }
+    ensures untold { IfOk result (λ judge. judge.value.last ≡ Ok Pass) }
     ensures err { IfErr result (λ e. IsRefused
         (start_in (profile_in all_held) limits lists.now blessed.now) e.list e.fault) }
 {

@@ -1,9 +1,9 @@
 -- Steps on a gate's word keep it the sum of the claims.
 use Rattle.std.proofs.Common.{◌≡◌, ℕ, ◌+◌, ◌≤◌, ◌<◌, ◌%◌, Bool, eqb, eq-eqb, ne_eqb, MatchBool}
-use Rattle.std.proofs.Common.{List, [], ◌∷◌, ◌++◌, set, sym, refl, ap, ◌∙◌, subst, arith}
+use Rattle.std.proofs.Common.{List, [], ◌∷◌, ◌++◌, set, sym, refl, ap, subst, arith}
 use Rattle.std.proofs.lemmas.List.Sums.{sum_by_push}
 use Rattle.std.specs.Prelude.{slice_index}
-use mathlib.Core.Option.{some, some-injective}
+use mathlib.Core.Option.{some}
 use native.Mathlib.Decide.{ℕ_discrete}
 use lib.ListN.{get_elem?}
 use prog.Atomic.{either}
@@ -14,7 +14,7 @@ use Rattle.wit_model.specs.declared.locks.Mode.TheVariants.{Shared, Exclusive}
 use Rattle.wit_model.specs.Gates.{most_shares, exclusive_word, AddsUp}
 use Rattle.wit_model.proofs.Gates.{adds_up, from_sum}
 use Rattle.wit_gates.specs.declared.claim.Claim.{Claim}
-use Rattle.wit_gates.specs.Claims.{claim, nothing, unmatched, share_met, claim_of, mode_of}
+use Rattle.wit_gates.specs.Claims.{claim, nothing, unmatched, share_met, claim_of, mode_of, gone}
 use Rattle.wit_gates.specs.Claims.{both_claims, less_one}
 use Rattle.wit_gates.specs.Claims.{shares_claimed, exclusives_claimed, IsCounted}
 use Rattle.wit_gates.specs.Plays.{Stand}
@@ -79,6 +79,22 @@ sets slots id me c d f is turns =
       moved s.words s.views id c d
           (f (slice_index s.words 0)) there (turns (slice_index s.words 0)) rule,
       refl,
+    ))
+
+-- a step that writes whatever it finds, of who has this ticket
+pub leaves : (slots id : ℕ) (me : Stand) (mode : Mode) (f : ℕ → ℕ) → Is me (claims (claim_of mode))
+    → ((n : ℕ) → Turns (claim_of mode) (gone mode) n (f n))
+    → Allows Rule slots id me 0 f (λ n m. Is me (claims (claim_of mode)) × Is m (claims (gone mode)))
+leaves slots id me mode f is turns =
+    subst (λ (me : Stand). Allows Rule slots id me 0 f
+    (λ n m. Is me (claims (claim_of mode)) × Is m (claims (gone mode)))) (sym is)
+    (λ s rule sized there fits. (
+      gone mode,
+      keeps,
+      tt,
+      moved s.words s.views id (claim_of mode) (gone mode)
+          (f (slice_index s.words 0)) there (turns (slice_index s.words 0)) rule,
+      (refl, refl),
     ))
 
 stays : (c : Claim) (n : ℕ) → Turns c c n n
@@ -234,12 +250,12 @@ pub takes_all : (met : ℕ) → Turns (unmatched met) (claim 0 1) 0 exclusive_wo
 takes_all met s e s' e' p q l m sum = omega arith
 
 -- one shares no more
-pub one_less : (n : ℕ) → Turns (claim 1 0) nothing n
+pub one_less : (n : ℕ) → Turns (claim 1 0) (gone Shared) n
     ((n + 18446744073709551615) % 18446744073709551616)
 one_less n s e s' e' p q l m sum = omega arith
 
 -- who has all gives it back
-pub gives_all : (n : ℕ) → Turns (claim 0 1) nothing n 0
+pub gives_all : (n : ℕ) → Turns (claim 0 1) (gone Exclusive) n 0
 gives_all n s e s' e' p q l m sum = omega arith
 
 -- the only one that shares has all

@@ -1,12 +1,14 @@
 -- What tickets claim of a gate's word, and that the word is the sum of it.
 use Rattle.std.specs.Prelude.{ℕ, ◌≡◌, ◌+◌, ◌-◌, ◌==◌, List, [], ◌∷◌, sum_by, if◌then◌else◌}
+use Rattle.std.specs.Prelude.{None, Some, unwrap_or}
 use Rattle.wit_model.specs.declared.locks.Mode.{Mode}
 use Rattle.wit_model.specs.declared.locks.Mode.TheVariants.{Shared, Exclusive}
 use Rattle.wit_model.specs.Gates.{IsGateWord}
 use Rattle.wit_gates.specs.declared.claim.Claim.{Claim}
 
 abbrev pub claim : ℕ → ℕ → Claim
-claim shares exclusives = record { shares = shares; exclusives = exclusives; met = 0 }
+claim shares exclusives =
+    record { shares = shares; exclusives = exclusives; met = 0; gave = None }
 
 -- what is claimed by whom no gate let in
 abbrev pub nothing : Claim
@@ -14,11 +16,19 @@ nothing = claim 0 0
 
 -- what is claimed by who isn't let in, and met this word
 abbrev pub unmatched : ℕ → Claim
-unmatched met = record { shares = 0; exclusives = 0; met = met }
+unmatched met = record { shares = 0; exclusives = 0; met = met; gave = None }
 
 -- what is claimed by who has a share, and met this word
 abbrev pub share_met : ℕ → Claim
-share_met met = record { shares = 1; exclusives = 0; met = met }
+share_met met = record { shares = 1; exclusives = 0; met = met; gave = None }
+
+-- what is claimed by who gave a ticket in this mode back
+abbrev pub gone : Mode → Claim
+gone mode = record { shares = 0; exclusives = 0; met = 0; gave = Some mode }
+
+-- the mode of the ticket that was given back, by who claims this
+abbrev pub mode_gone : Claim → Mode
+mode_gone c = unwrap_or c.gave Shared
 
 -- what a ticket in this mode claims
 abbrev pub claim_of : Mode → Claim

@@ -2,7 +2,8 @@
 use Rattle.std.specs.Prelude.{ℕ, ◌≡◌, ◌==◌, [], MatchBool}
 use Rattle.atomic_table.specs.Table.{Me, Step}
 use Rattle.wit_gates.specs.declared.claim.Claim.{Claim}
-use Rattle.wit_gates.specs.Claims.{claim, unmatched, share_met}
+use Rattle.wit_model.specs.declared.locks.Mode.{Mode}
+use Rattle.wit_gates.specs.Claims.{claim, claim_of, gone, unmatched, share_met}
 
 -- a seat of the word: what it claims (and no slots, of which there are none)
 abbrev pub Stand : Type 0
@@ -11,6 +12,10 @@ Stand = Me (Unit {0}) Claim
 -- it claims this from then on
 abbrev pub HasClaim : Claim → Stand → Type 0
 HasClaim c after = after ≡ (c, [])
+
+-- it had a ticket's claim in this mode, and has given it back from then on
+abbrev pub Leaves : Mode → Step (Unit {0}) → Stand → ℕ → Stand → Type 0
+Leaves mode step before found after = HasClaim (claim_of mode) before × HasClaim (gone mode) after
 
 -- it claims this from then on where the word was the one expected, and else nothing, with the word
 -- that it met

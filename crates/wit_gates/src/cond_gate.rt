@@ -69,7 +69,7 @@ impl CondGate {
         for _ in rt.forever() {
             turn = self
                 .freed
-                .wait_while(rt, turn, |_| self.word.is_exclusive());
+                .wait_while(rt, turn, |_| self.word.look().is_exclusive());
             match self.word.try_share(rt, &turn) {
                 Ok(ticket) => return Ok(ticket),
                 Err(met) => {
@@ -87,7 +87,9 @@ impl CondGate {
     {
         let mut turn = self.turn.lock(rt);
         for _ in rt.forever() {
-            turn = self.freed.wait_while(rt, turn, |_| !self.word.is_free());
+            turn = self
+                .freed
+                .wait_while(rt, turn, |_| !self.word.look().is_free());
             if let Ok(ticket) = self.word.try_exclusive(&turn) {
                 return ticket;
             }
@@ -136,7 +138,7 @@ impl Gate for CondGate {
 
     fn release<R: Wait>(&self, rt: &R, mode: Mode, ticket: Ticket) {
         let turn = self.turn.lock(rt);
-        self.word.free(&turn, mode, ticket);
+        let _left = self.word.free(&turn, mode, ticket);
         self.freed.notify_all();
     }
 

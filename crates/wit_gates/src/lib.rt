@@ -5,6 +5,7 @@
 mod claim;
 mod cond_gate;
 mod gate;
+mod left;
 mod met;
 mod rule;
 mod spin_gate;
@@ -14,6 +15,7 @@ mod word;
 pub use claim::Claim;
 pub use cond_gate::CondGate;
 pub use gate::Gate;
+pub use left::Left;
 pub use met::Met;
 pub use rule::Counts;
 pub use spin_gate::SpinGate;

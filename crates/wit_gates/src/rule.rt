@@ -3,7 +3,8 @@
 ghost use Rattle.std.specs.Prelude.{◌≡◌};
 ghost use Rattle.wit_gates.specs.Claims.{IsCounted, claim, nothing, unmatched};
 ghost use Rattle.wit_gates.specs.Claims.{both_claims, less_one};
-ghost use Rattle.wit_gates.specs.Plays.{Comes, HasClaim, Rises};
+ghost use Rattle.wit_gates.specs.Plays.{Comes, HasClaim, Leaves, Rises};
+ghost use Rattle.wit_model.specs.declared.locks.Mode.TheVariants.{Shared, Exclusive};
 
 use crate::claim::Claim;
 use atomic_table::{Join, Play, Split, TableRule};
@@ -17,11 +18,18 @@ impl TableRule<(), Claim, ()> for Counts {
     ghost first = { λ _. nothing };
 }
 
-/// Who steps claims nothing from then on.
-pub struct Ends;
+/// Who steps has a share, and gives it back.
+pub struct LeavesShare;
 
-impl Play<(), Claim> for Ends {
-    ghost then = { λ step before found after. HasClaim nothing after };
+impl Play<(), Claim> for LeavesShare {
+    ghost then = { Leaves Shared };
+}
+
+/// Who steps has the exclusive hold, and gives it back.
+pub struct LeavesHold;
+
+impl Play<(), Claim> for LeavesHold {
+    ghost then = { Leaves Exclusive };
 }
 
 /// Who steps knows the word that it met.

@@ -119,7 +119,7 @@ impl Gate for SpinGate {
 
     fn release<R: Wait>(&self, rt: &R, mode: Mode, ticket: Ticket) {
         let turn = self.turn.lock(rt);
-        self.word.free(&turn, mode, ticket);
+        let _left = self.word.free(&turn, mode, ticket);
     }
 
     fn try_upgrade<R: Wait>(&self, rt: &R, ticket: Ticket) -> Result<Ticket, (Ticket, Met)> {

@@ -4,10 +4,11 @@ ghost use Rattle.atomic_table.specs.Seated.{TableId};
 ghost use Rattle.wit_gates.specs.Tickets.{HasOneWord};
 
 use crate::claim::Claim;
-use crate::met::{MOST_SHARES, Met};
+use crate::left::Left;
+use crate::met::{EXCLUSIVE, MOST_SHARES, Met};
 use crate::rule::{
-    Counts, Ends, Joined, Looks, Meets, Parted, Shares, Told, TriesExclusive, TriesShare,
-    TriesUpgrade,
+    Counts, Joined, LeavesHold, LeavesShare, Looks, Meets, Parted, Shares, Told, TriesExclusive,
+    TriesShare, TriesUpgrade,
 };
 use crate::ticket::Ticket;
 use atomic_table::Table;
@@ -15,9 +16,6 @@ use std::alloc::{AllocError, Global};
 use std::marker::Model;
 use std::sync::{MutexGuard, Wait};
 use wit_model::Mode;
-
-// The word of a gate that somebody has alone.
-const EXCLUSIVE: u64 = 4_294_967_295;
 
 /// A number that says how many have a gate: 4,294,967,295 where one has it alone, else how many
 /// share it, which is up to 4,294,967,294.
@@ -58,19 +56,12 @@ impl Word {
         Ok((Word { table }, Turn(())))
     }
 
-    /// Whether nobody has the gate just now.
-    pub fn is_free(&self) -> bool {
-        self.table.shared.peek(0) == 0
-    }
-
-    /// Whether as many share the gate just now as can.
-    pub fn is_full(&self) -> bool {
-        self.table.shared.peek(0) == MOST_SHARES
-    }
-
-    /// Whether somebody has the gate alone just now.
-    pub fn is_exclusive(&self) -> bool {
-        self.table.shared.peek(0) == EXCLUSIVE
+    /// The word as it is met just now.
+    pub fn look(&self) -> Met
+        ensures { result.word ≡ self.now }
+    {
+        let (found, seat) = self.table.shared.load_new_seat::<Meets>(0);
+        Met::of(seat, found)
     }
 
     /// A share, where nobody has the gate alone and one more can share it. Else the word as it was
@@ -82,7 +73,7 @@ impl Word {
         let (mut found, mut seat) = shared.load_new_seat::<Meets>(0);
         for _ in rt.forever() {
             if found >= MOST_SHARES {
-                return Err(Met { seat, found });
+                return Err(Met::of(seat, found));
             }
             let now = shared.compare_exchange::<TriesShare>(&mut seat, 0, found, found + 1);
             if now == found {
@@ -102,21 +93,26 @@ impl Word {
         let (_, mut seat) = shared.load_new_seat::<Meets>(0);
         let found = shared.compare_exchange::<TriesExclusive>(&mut seat, 0, 0, EXCLUSIVE);
         if found != 0 {
-            return Err(Met { seat, found });
+            return Err(Met::of(seat, found));
         }
         Ok(Ticket { seat })
     }
 
     /// Takes a ticket back. It never fails.
-    pub fn free(&self, _turn: &MutexGuard<'_, Turn>, mode: Mode, ticket: Ticket)
+    pub fn free(&self, _turn: &MutexGuard<'_, Turn>, mode: Mode, ticket: Ticket) -> Left
         requires { ticket ≡ pass self.now mode }
+        ensures { result ≡ pass self.now mode }
     {
         let Ticket { mut seat } = ticket;
         match mode {
             Mode::Shared => {
-                self.table.shared.fetch_sub::<Ends>(&mut seat, 0, 1);
+                self.table.shared.fetch_sub::<LeavesShare>(&mut seat, 0, 1);
+                Left { seat }
             }
-            Mode::Exclusive => self.table.shared.store::<Ends>(&mut seat, 0, 0),
+            Mode::Exclusive => {
+                self.table.shared.store::<LeavesHold>(&mut seat, 0, 0);
+                Left { seat }
+            }
         }
     }
 
@@ -136,7 +132,7 @@ impl Word {
         let found = shared.compare_exchange::<TriesUpgrade>(&mut seat, 0, 1, EXCLUSIVE);
         if found != 1 {
             let met = shared.split_seat::<Told>(&mut seat);
-            return Err((Ticket { seat }, Met { seat: met, found }));
+            return Err((Ticket { seat }, Met::of(met, found)));
         }
         Ok(Ticket { seat })
     }

@@ -5,6 +5,8 @@
 #![tactic(auto)]
 
 #[cfg(test)]
+mod all_held;
+#[cfg(test)]
 mod alone;
 #[cfg(test)]
 mod asking;

@@ -72,6 +72,7 @@ impl<R: Wait + Abort> Program<R> for Adopted {
         shared.covers(rt, &mut seat, &learns);
         assert_eq!(rt; learns.known(A, B), Some(true));
         assert_eq!(rt; learns.known(B, A), Some(false));
+        assert_eq!(rt; learns.known(A, A), Some(false));
         assert_eq!(rt; learns.orders_seen(), Some(1));
         assert_eq!(rt; looks.known(A, B), Some(true));
         closed(rt, self.alloc, shared, seat);
@@ -141,12 +142,14 @@ fn listed_orders_are_seen(rt: HostRuntime) -> Result<(), Fail> {
 // How many mutexes there are, each of a type of its own, and each ordered behind the one before.
 const MANY: u16 = 1_020;
 
-/// Whether an observer answers of each of those orders, and turned round of none.
+/// Whether an observer answers of each of those orders, and of none turned round or from a type to
+/// itself.
 fn knows_each<J: Room>(observer: &mut Observer<J>) -> bool {
     for number in 1..MANY {
         let (before, after) = (TypeNo(number), TypeNo(number + 1));
         if observer.known(before, after) != Some(true)
             || observer.known(after, before) != Some(false)
+            || observer.known(after, after) != Some(false)
         {
             return false;
         }
@@ -184,6 +187,7 @@ impl<R: Wait + Abort> Program<R> for Many {
                 Ok(Reply::Adopted(..)) => {}
                 _ => panic!(rt; "not adopted"),
             }
+            assert_eq!(rt; looks.orders_seen(), Some(u32::from(number) - 1));
             last = next;
         }
         learns.learn(shared.news(rt, &mut seat));

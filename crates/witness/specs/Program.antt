@@ -2,9 +2,10 @@
 use Rattle.std.specs.Prelude.{ℕ, ◌≡◌, ◌⊎◌, List, Option, None, Ok}
 use Rattle.std.specs.Io.KnownBytes.{Keeps}
 use Rattle.wit_model.specs.declared.lines.View.{View}
-use Rattle.wit_model.specs.declared.lines.View.TheVariants.{Graph}
+use Rattle.wit_model.specs.declared.lines.View.TheVariants.{Graph, Reports}
 use Rattle.wit_model.specs.Trace.Output.{Unstarted}
 use Rattle.wit_model.specs.Trace.Moving.{Unmoved}
+use Rattle.wit_demo.specs.Demonstration.{IsEnded, IsTold}
 use Rattle.wit_migrate.specs.Again.{WritesTheSame}
 use Rattle.wit_migrate.specs.Migrates.{Migrates, MigratesFrom}
 use Rattle.wit_trace.specs.Replays.{ShowsTrace, ShowsFrom}
@@ -63,3 +64,10 @@ IsMigrationCut read written_old written_new =
 pub record TellsMovedLines (read written_old written_new : Option (List ℕ)) : Type 0 where
   pub left : Option (List ℕ)
   pub told : WritesLines MigratesFrom Unmoved read left written_old written_new
+
+-- the demonstration was told, or a call of it was refused, and this is its status, as that of a
+-- replay which reports what was reported
+pub record IsDemonstrated (written_old written_new : Option (List ℕ)) (ended : ℕ) : Type 0 where
+  pub summary : Summary
+  pub told : IsTold written_old written_new summary ⊎ IsEnded written_old written_new summary
+  pub status : ended ≡ exit_status Reports (Ok summary)

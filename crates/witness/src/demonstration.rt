@@ -1,5 +1,9 @@
 //! The demonstration, and its exit status.
 
+ghost use Rattle.std.specs.Prelude.{IfErr, IfOk};
+ghost use Rattle.wit_demo.specs.Demonstration.{IsCutShort};
+ghost use Rattle.witness.specs.Program.{IsDemonstrated};
+
 use std::alloc::Global;
 use std::io::Write;
 use std::sync::Wait;
@@ -18,7 +22,10 @@ pub fn demonstrate<R: Threads + Wait + Sync, W: Write>(
     rt: &R,
     alloc: Global,
     output: &mut W,
-) -> Result<u8, ReplayError> {
+) -> Result<u8, ReplayError>
+    ensures shown { IfOk result (IsDemonstrated (W.contents output.old) (W.contents output.new)) }
+    ensures err { IfErr result (IsCutShort (W.contents output.old) (W.contents output.new)) }
+{
     let outcome = demo(rt, alloc, output);
     let status = status_of(View::Reports, &outcome);
     match outcome {

@@ -10,13 +10,13 @@ mod words;
 use crate::complaints::fail;
 use crate::demonstration::demonstrate;
 use crate::program::{Ended, run};
-use crate::words::words_of;
+use crate::words::{Process, words_of};
 use std::process::ExitCode;
 use wit_stream::ReplayError;
 
 fn main(rt: HostRuntime) -> ExitCode {
     let (mut output, mut complaints) = (rt.stdout(), rt.stderr());
-    let ended = match words_of(&rt, rt.alloc()) {
+    let ended = match words_of(&Process(&rt), rt.alloc()) {
         Ok(words) => run(
             rt.alloc(),
             words.as_slice(),

@@ -72,22 +72,28 @@ fn hold_of<R: Wait + Abort>(rt: &R, word: &Word, turn: &MutexGuard<'_, Turn>) ->
     }
 }
 
+/// Whether a look finds a word free, or had by one alone; and never full.
+fn is_seen(word: &Word, free: bool, alone: bool) -> bool {
+    let met = word.look();
+    met.is_free() == free && met.is_exclusive() == alone && !met.is_full()
+}
+
 #[test]
 fn words_tell_what_is_out(rt: HostRuntime) -> Result<(), Fail> {
     let (word, turn) = Word::new(rt.alloc())?;
     let turns = Mutex::new(turn);
     let turn = turns.lock(&rt);
-    assert!(rt; word.is_free() && !word.is_exclusive() && !word.is_full());
+    assert!(rt; is_seen(&word, true, false));
     let alone = hold_of(&rt, &word, &turn);
-    assert!(rt; !word.is_free() && word.is_exclusive() && !word.is_full());
+    assert!(rt; is_seen(&word, false, true));
     let one = word.downgrade(&turn, alone);
     let other = share_of(&rt, &word, &turn);
     let (one, other) = word.pair(one, other);
-    assert!(rt; !word.is_free() && !word.is_exclusive() && !word.is_full());
+    assert!(rt; is_seen(&word, false, false));
     let third = share_of(&rt, &word, &turn);
-    assert!(rt; !word.is_free() && !word.is_exclusive() && !word.is_full());
-    word.free(&turn, Mode::Shared, third);
-    word.free(&turn, Mode::Shared, one);
+    assert!(rt; is_seen(&word, false, false));
+    let _left = word.free(&turn, Mode::Shared, third);
+    let _left = word.free(&turn, Mode::Shared, one);
     other.abandon();
     assert_eq!(rt;
         word.into_word(),

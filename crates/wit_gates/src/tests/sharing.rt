@@ -29,14 +29,47 @@ fn is_shared_by<G: Gate, R: Wait + Abort>(rt: &R, gate: &G, count: u32) {
     gate.release(rt, Mode::Exclusive, alone);
 }
 
+/// Each number from 1 to 40 shares it, and 255 do.
+fn is_shared_by_each<G: Gate, R: Wait + Abort>(rt: &R, gate: &G) {
+    for count in 1..=40 {
+        is_shared_by(rt, gate, count);
+    }
+    is_shared_by(rt, gate, 255);
+}
+
 #[test]
-fn three_and_eight_share(rt: HostRuntime) -> Result<(), Fail> {
+fn each_number_shares(rt: HostRuntime) -> Result<(), Fail> {
     let sleeping = CondGate::new(rt.alloc()).ok().expect(&rt, "memory");
-    is_shared_by(&rt, &sleeping, 3);
-    is_shared_by(&rt, &sleeping, 8);
+    is_shared_by_each(&rt, &sleeping);
     let spinning = SpinGate::new(rt.alloc()).ok().expect(&rt, "memory");
-    is_shared_by(&rt, &spinning, 3);
-    is_shared_by(&rt, &spinning, 8);
+    is_shared_by_each(&rt, &spinning);
+    Ok(())
+}
+
+/// Has so many shares more, and comes in beside each number of them as one who would wait.
+fn comes_in_beside_each<G: Gate + Visited, R: Wait + Clock + Abort>(
+    rt: &R,
+    gate: &G,
+    count: u32,
+    inside: &AtomicU64,
+) {
+    assert!(rt; gate.meet(rt, inside, 1), "refused beside shares");
+    if count == 0 {
+        return;
+    }
+    let share = tries(rt, gate, Mode::Shared, "a share beside others");
+    comes_in_beside_each(rt, gate, count - 1, inside);
+    gate.release(rt, Mode::Shared, share);
+}
+
+#[test]
+fn nobody_waits_beside_up_to_255_shares(rt: HostRuntime) -> Result<(), Fail> {
+    let inside = AtomicU64::new(0);
+    let sleeping = CondGate::new(rt.alloc()).ok().expect(&rt, "memory");
+    comes_in_beside_each(&rt, &sleeping, 255, &inside);
+    let spinning = SpinGate::new(rt.alloc()).ok().expect(&rt, "memory");
+    comes_in_beside_each(&rt, &spinning, 255, &inside);
+    assert_eq!(rt; inside.load(Ordering::SeqCst), 512, "so many came in");
     Ok(())
 }
 

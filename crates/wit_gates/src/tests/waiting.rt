@@ -189,13 +189,22 @@ fn writer_waits<G: Gate + Visited + Sync, R: Threads + Wait + Clock + Abort + Sy
     assert!(rt; came, "a writer that waits doesn't come in");
 }
 
+/// A writer waits for each number of readers from 1 to 40, and for 255.
+fn writer_waits_for_each<G: Gate + Visited + Sync, R: Threads + Wait + Clock + Abort + Sync>(
+    rt: &R,
+    gate: &G,
+) {
+    for count in 1..=40 {
+        writer_waits(rt, gate, count);
+    }
+    writer_waits(rt, gate, 255);
+}
+
 #[test]
 fn a_writer_waits_behind_readers(rt: HostRuntime) -> Result<(), Fail> {
     let sleeping = CondGate::new(rt.alloc()).ok().expect(&rt, "memory");
-    writer_waits(&rt, &sleeping, 3);
-    writer_waits(&rt, &sleeping, 8);
+    writer_waits_for_each(&rt, &sleeping);
     let spinning = SpinGate::new(rt.alloc()).ok().expect(&rt, "memory");
-    writer_waits(&rt, &spinning, 3);
-    writer_waits(&rt, &spinning, 8);
+    writer_waits_for_each(&rt, &spinning);
     Ok(())
 }

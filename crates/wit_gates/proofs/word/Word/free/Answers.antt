@@ -1,8 +1,7 @@
 use Rattle.std.proofs.Common.{◌∙◌, ap, rules}
 use Rattle.wit_model.specs.declared.locks.Mode.TheVariants.{Shared, Exclusive}
 use Rattle.wit_gates.specs.Tickets.{Pass}
-use Rattle.wit_gates.specs.Claims.{claim, nothing}
-use Rattle.wit_gates.proofs.Steps.{sets, stands, one_less, gives_all}
+use Rattle.wit_gates.proofs.Steps.{leaves, stands, one_less, gives_all}
 use Rattle.wit_gates.proofs.word.Word.free.Goals as goal
 
 pub fetch_sub-requires : goal.fetch_sub-requires
@@ -10,8 +9,8 @@ fetch_sub-requires c =
     let seat = c.ticket.inside.seat in (
       search rules,
       search rules,
-      sets c.self.inside.table.shared.table_id.slots seat.id seat.me
-          (claim 1 0) nothing _ (stands seat.me Shared c.ticket.invariant
+      leaves c.self.inside.table.shared.table_id.slots seat.id seat.me Shared _
+          (stands seat.me Shared c.ticket.invariant
           (ap (λ (p : Pass). p.mode) (c.ticket.view_is ∙ c.requires) ∙ c.in-Shared.is)) one_less,
     )
 
@@ -20,8 +19,8 @@ store-requires c =
     let seat = c.ticket.inside.seat in (
       search rules,
       search rules,
-      sets c.self.inside.table.shared.table_id.slots seat.id seat.me
-          (claim 0 1) nothing _ (stands seat.me Exclusive c.ticket.invariant
+      leaves c.self.inside.table.shared.table_id.slots seat.id seat.me Exclusive _
+          (stands seat.me Exclusive c.ticket.invariant
           (ap (λ (p : Pass). p.mode) (c.ticket.view_is ∙ c.requires) ∙ c.in-Exclusive.is))
           gives_all,
     )
