@@ -9,7 +9,7 @@ plugin() {
 is_unharmed() {
     timeout 20 "$@" >plain.out 2>&1
     plain=$?
-    timeout 30 "$record" --errors no -- "$@" >recorded.out 2>recorded.err
+    timeout 120 "$record" --errors no -- "$@" >recorded.out 2>recorded.err
     status=$?
     [ $status -eq $plain ] && cmp -s plain.out recorded.out && return
     echo "$plain by itself, $status in the recorder" && cat recorded.err
@@ -67,9 +67,9 @@ if wanted mapped; then
     printf 'int big_table_of_another_file[1 << 20];\n' >big.c && "${CC:-cc}" -g -fPIC -shared -o big.so big.c
     compile flat && is_unharmed ./flat "$work/big.so" "$work/one.so" && [ $plain -eq 0 ]
     tell mapped "a library's file that is mapped as data" $?
-    rm -rf kept && mkdir kept
-    RECORDER_DIRECTORY=$work/kept LD_PRELOAD=$("$recorder/build")/recorder.so ./flat "$work/big.so" "$work/one.so"
-    grep -aq '^init' kept/[0-9]* && ! grep -aq 'big.so' kept/[0-9]*
+    rm -rf seen && mkdir seen
+    RECORDER_DIRECTORY=$work/seen LD_PRELOAD=$("$recorder/build")/recorder.so ./flat "$work/big.so" "$work/one.so"
+    grep -aq '^init' seen/[0-9]* && ! grep -aq 'big.so' seen/[0-9]*
     tell mapped "it has no locks" $?
     # The second one has the opposite order of locks at the addresses of the first one's.
     compile unloaded && plugin one one_a one_b
