@@ -55,12 +55,13 @@ AsksRecorded (Logged e) v =
     → 0 < shares e.seat.0 l v → is_held e.seat.0 l (log_of v) ≡ true
 AsksRecorded _ v = Unit {0}
 
--- so it is at each of these deeds
+-- so it is at each of these deeds, newest first
 abbrev pub AllAskRecorded : List Deed → Type 0
 AllAskRecorded [] = Unit {0}
 AllAskRecorded (d ∷ v) = AsksRecorded d v × AllAskRecorded v
 
--- what covers the log of such a run tells of all its deeds
+-- what covers the log of such a run tells of all its deeds. The run need not be a world, where its
+-- log is legal
 abbrev pub CoverTellsOfRun : Type 0
 CoverTellsOfRun =
     (start : Start) (files : List (List ℕ)) (w : List Deed) (g : List Entry)
