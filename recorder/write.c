@@ -16,9 +16,10 @@
  * holds nothing, what it acquires again, and what it holds when it asks for nothing.
  *
  * Why that is enough. A trace tells of a pair of types where a thread asks for a lock of the one type while it holds one
- * of the other. Whether a trace is clean depends on the set of its pairs alone (law_pairs_decide of
- * crates/wit_recordings), and by that duty the condensed stream and the full one tell of the same pairs. So one of them is
- * clean exactly where the other one is. In the plain profile a clean trace has no tries, in the all-held one it may.
+ * of the other. By that duty the condensed stream and the full one tell of the same pairs. So where the condensed one is
+ * clean, no order of the threads' steps makes them wait in a circle (law_covered_never_deadlock of crates/wit_recordings),
+ * whatever it leaves out. Whether a trace is clean depends on the set of its pairs alone (law_pairs_decide), but for lines
+ * that no clean trace has: such as a try in the plain profile, which the full stream may have where the condensed one hasn't.
  *   - With tries the plain profile reports the same in both streams: as long as nothing was reported, both have adopted
  *     the same orders. By the law of the verdict PassedPassesOn (crates/wit_model/specs/VerdictLaws.antt) a request that is
  *     left out passes and adopts nothing.

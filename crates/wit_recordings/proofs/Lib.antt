@@ -2,6 +2,9 @@ pub mod Agreed
 pub mod Behind
 pub mod Circles
 pub mod Condensed
+pub mod Covered
+pub mod LeftOut
+pub mod Recorded
 pub mod Reordered
 pub mod Shorter
 pub mod Told

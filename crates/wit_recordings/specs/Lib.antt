@@ -1,1 +1,2 @@
+pub mod Duty
 pub mod Recordings

@@ -55,6 +55,10 @@ abbrev pub TellsOf : List Entry → NamedType → NamedType → Type 0
 TellsOf [] a b = ⊥
 TellsOf (e ∷ h) a b = AsksWhileHolding h e a b ⊎ TellsOf h a b
 
+-- g covers h: it tells of each pair that h tells of
+abbrev pub Covers : List Entry → List Entry → Type 0
+Covers g h = (a b : NamedType) → TellsOf h a b → TellsOf g a b
+
 -- the pairs of a history lead from one type over these to another
 abbrev pub PairsLead : List Entry → NamedType → List NamedType → NamedType → Type 0
 PairsLead h a [] b = TellsOf h a b
@@ -123,12 +127,11 @@ RunsTogetherNeverDeadlock =
     → IsLegal start files h → is_clean start.profile h ≡ true
     → ((t : ℕ) → TellsOfDeeds h types (runs t)) → GoAsInRuns runs v → IsDeadlock v threads → ⊥
 
--- a history with all pairs of another one tells of all deeds that the other tells of
+-- a history that covers another one tells of all deeds that the other tells of
 abbrev pub MorePairsTellMore : Type 0
 MorePairsTellMore =
     (h g : List Entry) (types : ℕ → NamedType) (v : List Deed)
-    → ((a b : NamedType) → TellsOf h a b → TellsOf g a b)
-    → TellsOfDeeds h types v → TellsOfDeeds g types v
+    → Covers g h → TellsOfDeeds h types v → TellsOfDeeds g types v
 
 -- ---- a short recording, and one with a report
 
@@ -194,16 +197,15 @@ RoundToNoneIsClean =
     → start.lists ≡ [] → IsLegal start files h → may_be_clean start.profile h ≡ true
     → LeadsRoundToNone h → is_clean start.profile h ≡ true
 
--- such a history is clean where a clean one has all its pairs: as a shorter recording of one run
--- does, or one recording of several runs
+-- such a history is clean where a clean one covers it: as a shorter recording of one run does, or
+-- one recording of several runs
 abbrev pub FewerPairsAreClean : Type 0
 FewerPairsAreClean =
     (start more : Start) (files named : List (List ℕ)) (h g : List Entry)
     → start.lists ≡ [] → IsLegal start files h → may_be_clean start.profile h ≡ true
     → start_fault more ≡ None → more.blessed ≡ [] → IsLegal more named g
     → is_clean more.profile g ≡ true
-    → ((a b : NamedType) → TellsOf h a b → TellsOf g a b)
-    → is_clean start.profile h ≡ true
+    → Covers g h → is_clean start.profile h ≡ true
 
 -- ---- requests that a recorder leaves out
 
@@ -234,7 +236,7 @@ Condenses g h = (a : NamedType) (chain : List NamedType) (b : NamedType)
 abbrev pub CondensedTellsOfAll : Type 0
 CondensedTellsOfAll =
     (start : Start) (files : List (List ℕ)) (h g : List Entry)
-    → IsLegal start files h → Condenses g h → (a b : NamedType) → TellsOf h a b → TellsOf g a b
+    → IsLegal start files h → Condenses g h → Covers g h
 
 -- where a clean history condenses the log of a run, no reordering of the run has a deadlock
 abbrev pub RunsCondensedNeverDeadlock : Type 0

@@ -1,6 +1,18 @@
 //! Laws of recordings: what a clean history says of threads whose calls it needn't have. Each
 //! function is a theorem, and does nothing.
 
+ghost use Rattle.wit_recordings.specs.Duty.{
+  WhatIsToldStays,
+  DutyKeepsCover,
+  CoverTellsOfRun,
+  RunsCoveredNeverDeadlock,
+  RecordedWorldsAskRecorded,
+  RunAsksBehindBoth,
+  RecordingLeavesItOut,
+  ReportedMayDeadlock,
+  UnrecordedMayDeadlock,
+  UncoveredMayDeadlock,
+};
 ghost use Rattle.wit_recordings.specs.Recordings.{
   ThreadsToldOfNeverDeadlock,
   RunsToldAreToldMixed,
@@ -59,4 +71,29 @@ pub fn law_condensed()
     ensures tells { CondensedTellsOfAll }
     ensures run { RunsCondensedNeverDeadlock }
     ensures met { ShorterCondenses }
+{}
+
+/// A recorder's duty: a request by a thread that holds locks is written, after all that the thread
+/// holds, unless each of its pairs of types was written before. What is written so covers all calls:
+/// it tells of each pair that they tell of. Where it is clean, no reordering of the run reaches a
+/// deadlock, if each thread had recorded what it had when it asked. It doesn't matter whether the
+/// run was reported, or a lock was tried in it. Each world meets that premise in which no
+/// acquisition goes unrecorded.
+pub fn law_covered_never_deadlock()
+    ensures stays { WhatIsToldStays }
+    ensures duty { DutyKeepsCover }
+    ensures tells { CoverTellsOfRun }
+    ensures run { RunsCoveredNeverDeadlock }
+    ensures recorded { RecordedWorldsAskRecorded }
+{}
+
+/// Such a recording may leave out a request behind two locks, whose pairs it has from two others,
+/// and be clean though the run has a try. None of the premises may go: threads deadlock where the
+/// recording has a report, where it lacks pairs, and where what they had wasn't recorded.
+pub fn law_left_out()
+    ensures run { RunAsksBehindBoth }
+    ensures met { RecordingLeavesItOut }
+    ensures reported { ReportedMayDeadlock }
+    ensures uncovered { UncoveredMayDeadlock }
+    ensures unrecorded { UnrecordedMayDeadlock }
 {}
