@@ -100,7 +100,7 @@ static bool found_in_file(struct elf *elf)
     return elf->strings && elf->table_count > 0 && elf->table_count < UINT32_MAX;
 }
 
-/* What the entry of that tag points to, NULL where there is none. The linker has put addresses there, but not in all objects. */
+/* What the entry of that tag points to, NULL where there is none. In most objects the linker has put addresses there. */
 static const void *pointed(const struct elf *elf, ElfW(Sxword) tag)
 {
     for (const ElfW(Dyn) *entry = elf->dynamic; entry->d_tag != DT_NULL; entry++)

@@ -132,7 +132,7 @@ enum { ASKED_AT = 6, ASKED_NOT = '0', ASKED_NOW = '1', ASKED_ALWAYS = '3' };
 #define STATUS_FULL "full"
 /* Objects stand there too; this is one where there were too many. */
 #define STATUS_MORE_OBJECTS "?"
-/* And those that were opened so that their calls go past the recorder (libraries.c); then that semaphores were, which aren't recorded. */
+/* And those that were opened so that their calls go past the recorder (libraries.c); and that semaphores were waited for. */
 #define STATUS_PAST "past"
 #define STATUS_SEMAPHORES "semaphores"
 enum { STATUS_BYTES = 1 << 20, STATUS_DIGITS = 7 };

@@ -129,7 +129,7 @@ static void read_file(struct object *object, const struct loaded *loaded)
         elf_opens(&object->elf, object->path, loaded->segments, loaded->segment_count);
 }
 
-/* Where the linker was started as a program, that's the one whose file the kernel tells: it was given this one by its name. */
+/* Where the linker was started as a program, the kernel tells its file: the linker was given this one by its name. */
 static void find_program(struct object *object, const struct loaded *loaded)
 {
     static char path[PATH_MAX];

@@ -572,7 +572,7 @@ const char *object_symbol(uint32_t object, uintptr_t address, bool function, uin
 const char *object_symbol_file(uint32_t object, uintptr_t address);
 /* Whether an object of that file is loaded. */
 bool object_is_known(const char *path);
-/* What is loaded by now, looked at outside the mutex: when the program begins, and where it has opened or closed a library. */
+/* Looks at what is loaded by now, outside the mutex: when the program begins, and has opened or closed a library. */
 void objects_begin(void);
 void objects_look(void);
 /* Whether the object of an address can be asked for; else objects_look comes before. */

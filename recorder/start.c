@@ -249,7 +249,7 @@ void start(void)
     errno = before;
 }
 
-/* Whether a handler of signals called, on a stack that the program gave for that. One that was set by a bare call isn't remembered. */
+/* Whether a handler of signals called, on a stack of its own. One that was set by a bare call isn't remembered. */
 static bool is_on_other_stack(const struct thread *thread, uintptr_t stack)
 {
     stack_t other = {.ss_sp = (void *)thread->other_stack, .ss_size = thread->other_size};

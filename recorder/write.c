@@ -578,7 +578,8 @@ void write_order(struct request *request, enum order_line line)
             put_lock(stream, thread, held->lock, held->mode, held->tried ? "t" : "");
             put_text(stream, order_is_under(held, request) ? "u" : "");
         }
-        put_lock(stream, thread, request->lock, request->mode, request->ends_wait ? "w" : request->repeats ? "p" : request->timed ? "l" : "");
+        put_lock(stream, thread, request->lock, request->mode,
+            request->ends_wait ? "w" : request->repeats ? "p" : request->timed ? "l" : "");
         put_text(stream, line == ORDER_AGAIN ? "r\n" : "\n");
         stream_append(stream, false);
         seat_given_back(stream, thread);
