@@ -11,8 +11,9 @@
  *
  * When something was is told by how many threads had been made and joined before. A lock is three words: its number in
  * the trace, 0 where it has none; its serial number, which no other lock has; and its mode, with a `t` where it was tried,
- * an `l` where it is asked for with a time limit, a `p` where that is done again and again (repeats.c), and a `w` where it is asked for again as a wait for a condition ends. A held
- * lock has a `u` where it was acquired while the lock was held that is asked for now.
+ * an `l` where it is asked for with a time limit, a `p` where that is done again and again (repeats.c), and a `w` where it
+ * is asked for again as a wait for a condition ends. A held lock has a `u` where it was acquired while the lock was held
+ * that is asked for now.
  *
  * A chain of locks is told of when it is first asked for, and when a second thread does so. As long as one thread has
  * asked for it alone, it is told of again (`r` after the last mode) when that thread has made another one in between. All
