@@ -188,7 +188,8 @@ EXPORT int pthread_rwlock_unlock(pthread_rwlock_t *lock)
 
 EXPORT int pthread_spin_init(pthread_spinlock_t *lock, int shared)
 {
-    AFTER_SUCCESS(real.spin_init(lock, shared), lock_made((const void *)lock, SPIN, CALLER));
+    enum class class = shared == PTHREAD_PROCESS_SHARED ? SHARED_SPIN : SPIN;
+    AFTER_SUCCESS(real.spin_init(lock, shared), lock_made((const void *)lock, class, CALLER));
 }
 
 EXPORT int pthread_spin_destroy(pthread_spinlock_t *lock)

@@ -275,6 +275,8 @@ enum { SHARED_BY_PROCESSES = 128 };
 /* Read outside the mutex: a handler of the program's may bring the memory that a mutex is in, and may lock others for it. */
 static int kind_at(const void *address, enum class class)
 {
+    if (class == SHARED_SPIN || class == SHARED_SEMAPHORE)
+        return SHARED_BY_PROCESSES;
     if (class == RWLOCK)
         return *(const volatile int *)&((const pthread_rwlock_t *)address)->__data.__shared ? SHARED_BY_PROCESSES : 0;
     return class == MUTEX ? *(const volatile int *)&((const pthread_mutex_t *)address)->__data.__kind : 0;
@@ -285,7 +287,7 @@ static void take_kind(struct lock *lock, enum class class, int kind)
     bool robust = kind & 16;
     lock->shared = kind & SHARED_BY_PROCESSES;
     lock->recursive = class == MUTEX && (kind & 3) == PTHREAD_MUTEX_RECURSIVE_NP;
-    lock->loses = class == SPIN || class == SEMAPHORE
+    lock->loses = class == SPIN || class == SHARED_SPIN || class == SEMAPHORE || class == SHARED_SEMAPHORE
         || (class == MUTEX && !robust
             && ((kind & 3) == PTHREAD_MUTEX_TIMED_NP || (kind & 3) == PTHREAD_MUTEX_ADAPTIVE_NP));
 }

@@ -78,8 +78,11 @@ enum { SEATS = 256, TYPES = 1023, LOCKS = 65536 };
 #define SERIAL_BITS 28
 #define ORDER_LONGEST 24u /* locks of an order of single ones; of a longer chain it isn't told */
 
-/* TOLD_RWLOCK: one that the program tells of (annotations.c), whose memory is never read. */
-enum class { MUTEX, RWLOCK, SPIN, SEMAPHORE, TOLD_RWLOCK };
+/*
+ * TOLD_RWLOCK: one that the program tells of (annotations.c), whose memory is never read. The last two are made for several
+ * processes, which their memory doesn't say.
+ */
+enum class { MUTEX, RWLOCK, SPIN, SEMAPHORE, TOLD_RWLOCK, SHARED_SPIN, SHARED_SEMAPHORE };
 enum mode { SHARED, EXCLUSIVE };
 
 /* The number of a thing in each stream, 0 before it has one. A forked child begins a life with none. */

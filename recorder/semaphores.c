@@ -13,7 +13,9 @@ bool semaphores_are_locks;
 static struct lock *lock_of(const sem_t *semaphore)
 {
     struct lock *lock = semaphores_are_locks ? lock_at(semaphore) : NULL;
-    return lock && lock->type->class == SEMAPHORE && !atomic_load(&lock->left_alone) ? lock : NULL;
+    if (!lock || (lock->type->class != SEMAPHORE && lock->type->class != SHARED_SEMAPHORE))
+        return NULL;
+    return atomic_load(&lock->left_alone) ? NULL : lock;
 }
 
 /* Who holds it finds out at its next call. */
@@ -76,7 +78,7 @@ EXPORT int sem_init(sem_t *semaphore, int shared, unsigned value)
     start();
     int answer = real.sem_init(semaphore, shared, value);
     if (answer == 0 && semaphores_are_locks && value == 1)
-        lock_made(semaphore, SEMAPHORE, CALLER);
+        lock_made(semaphore, shared ? SHARED_SEMAPHORE : SEMAPHORE, CALLER);
     else if (answer == 0 && lock_of(semaphore))
         lock_gone(semaphore);
     return answer;

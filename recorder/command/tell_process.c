@@ -185,7 +185,7 @@ static void look_for_premises(struct process *process)
         answer = "a lock was released by a thread that didn't hold it";
     else if (!stream_count(&process->stream, "rereads", &rereads) || rereads > 0)
         answer = "a thread read a lock again that it read, and a writer may come in between";
-    if (process->notes.has_shared && ++run->sharing > 1)
+    if (process->notes.has_shared && run->status.loads > 1)
         answer = "locks that processes share are judged in each process by itself";
     if (strcmp(answer, "clean") != 0 && !run->unclean)
         run->unclean = say_text("%s: %s", process->name, answer);

@@ -54,7 +54,6 @@ struct run {
     bool partly;    /* not all was recorded */
     bool unknown;   /* of a process that was recorded nothing is known */
     char *unclean;  /* why the run isn't clean, NULL where it is */
-    size_t sharing; /* processes that asked for locks which other processes may have, too, or while they held such */
     struct learning *learning; /* the orders of its processes (learn.h); NULL where none were taken */
     bool contradicted; /* one of them is against those of other runs */
     bool has_new;      /* one of them is new */

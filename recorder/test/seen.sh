@@ -119,15 +119,15 @@ fi
 # Locks that processes share are judged in each by itself.
 if wanted processes; then
     compile processes
-    for class in mutex rwlock; do
-        recorded_by "$record" -- ./processes both $class
-        said 0 '^record: not clean: .*: locks that processes share are judged in each process by itself$' &&
-            ! grep -q '^record: clean' recorded.err
-        tell processes "both processes hold one and ask for another ($class)" $?
-        for how in one alone; do
+    for class in mutex rwlock spin; do
+        for how in both one; do
             recorded_by "$record" -- ./processes $how $class
-            last_is 'record: nothing to report' && grep -q '^record: clean' recorded.err
-            tell processes "$how ($class)" $?
+            said 0 '^record: not clean: .*: locks that processes share are judged in each process by itself$' &&
+                ! grep -q '^record: clean' recorded.err && last_is 'record: nothing to report'
+            tell processes "two processes have them ($how, $class)" $?
         done
+        recorded_by "$record" -- ./processes alone $class
+        last_is 'record: nothing to report' && grep -q '^record: clean' recorded.err
+        tell processes "one process ($class)" $?
     done
 fi
