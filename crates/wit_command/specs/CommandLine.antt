@@ -6,7 +6,7 @@ use Rattle.clap.specs.Words.{App, Text, new_app, new_rule, with_rule}
 use Rattle.clap.specs.declared.builder.action.ArgAction.TheVariants.{Set}
 use Rattle.wit_model.specs.declared.lines.View.TheVariants.{Reports, Graph, Locks, Circle}
 use Rattle.wit_command.specs.declared.command.Command.{Command}
-use Rattle.wit_command.specs.declared.command.Command.TheVariants.{Show, Migrate, Demo}
+use Rattle.wit_command.specs.declared.command.Command.TheVariants.{Show, Migrate, Grade, Demo}
 
 -- the words' bytes
 abbrev pub bytes_of : List (Vec ℕ) → List (List ℕ)
@@ -20,6 +20,7 @@ command_named word =
     else if bytes_eq word (codes "locks") then Some (Show Locks)
     else if bytes_eq word (codes "circle") then Some (Show Circle)
     else if bytes_eq word (codes "migrate") then Some Migrate
+    else if bytes_eq word (codes "grade") then Some Grade
     else if bytes_eq word (codes "demo") then Some Demo
     else None
 

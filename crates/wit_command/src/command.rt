@@ -9,6 +9,8 @@ pub enum Command {
     Show(View),
     /// The trace on standard input, in the second version of the format.
     Migrate,
+    /// The grades of the facts on standard input.
+    Grade,
     /// The demonstration.
     Demo,
 }

@@ -82,6 +82,7 @@ fn named_command(word: &str) -> Option<Command>
         "locks" => Some(Command::Show(View::Locks)),
         "circle" => Some(Command::Show(View::Circle)),
         "migrate" => Some(Command::Migrate),
+        "grade" => Some(Command::Grade),
         "demo" => Some(Command::Demo),
         _ => None,
     }

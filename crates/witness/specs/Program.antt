@@ -8,6 +8,7 @@ use Rattle.wit_model.specs.Trace.Moving.{Unmoved}
 use Rattle.wit_demo.specs.Demonstration.{IsEnded, IsTold}
 use Rattle.wit_migrate.specs.Again.{WritesTheSame}
 use Rattle.wit_migrate.specs.Migrates.{Migrates, MigratesFrom}
+use Rattle.wit_grades.specs.Outputs.{Grades, GradesFrom, nothing_told}
 use Rattle.wit_trace.specs.Replays.{ShowsTrace, ShowsFrom}
 use Rattle.wit_trace.specs.Status.{exit_status}
 use Rattle.wit_stream.specs.Stream.{WritesOutput, WritesFront, WritesLines}
@@ -64,6 +65,30 @@ IsMigrationCut read written_old written_new =
 pub record TellsMovedLines (read written_old written_new : Option (List ℕ)) : Type 0 where
   pub left : Option (List ℕ)
   pub told : WritesLines MigratesFrom Unmoved read left written_old written_new
+
+-- the grades that the input asks for were written, and this is its status, as where nothing is
+-- reported
+pub record IsGradedWhole (read written_old written_new : Option (List ℕ)) (ended : ℕ) : Type 0 where
+  pub summary : Summary
+  pub written : WritesOutput Grades read written_old written_new summary
+  pub status : ended ≡ exit_status Graph (Ok summary)
+
+-- and that is what is left to do
+abbrev pub IsGradedAndExits : Option (List ℕ) → Option (List ℕ) → Option (List ℕ) → Ended → Type 0
+IsGradedAndExits read written_old written_new (Exits status) =
+    IsGradedWhole read written_old written_new status
+IsGradedAndExits read written_old written_new ShowsThreads = ⊥
+
+-- a beginning was written of the grades that the input asks for, which may be nothing
+abbrev pub IsGradingCut : Option (List ℕ) → Option (List ℕ) → Option (List ℕ) → Type 0
+IsGradingCut read written_old written_new =
+    Keeps written_old written_new ⊎ WritesFront Grades read written_old written_new
+
+-- the grades that the whole lines ask for which were taken from the input were written, no less,
+-- whatever is left of it
+pub record TellsGrades (read written_old written_new : Option (List ℕ)) : Type 0 where
+  pub left : Option (List ℕ)
+  pub told : WritesLines GradesFrom nothing_told read left written_old written_new
 
 -- the demonstration was told, or a call of it was refused, and this is its status, as that of a
 -- replay which reports what was reported

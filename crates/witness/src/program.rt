@@ -2,6 +2,7 @@
 
 ghost use Rattle.std.specs.Prelude.{◌≡◌, ◌≢◌, ◌⊎◌, Ok, Err, IfOk, OnErr, None, Some};
 ghost use Rattle.std.specs.Io.KnownBytes.{Keeps};
+ghost use Rattle.wit_grades.specs.Outputs.{Grades};
 ghost use Rattle.wit_migrate.specs.Again.{WritesTheSame};
 ghost use Rattle.wit_migrate.specs.Migrates.{Migrates};
 ghost use Rattle.wit_trace.specs.Replays.{ShowsTrace};
@@ -9,15 +10,18 @@ ghost use Rattle.wit_stream.specs.Stream.{WritesOutput};
 ghost use Rattle.wit_command.specs.CommandLine.{asked, bytes_of};
 ghost use Rattle.wit_stream.specs.declared.summary.ReplayError.TheVariants as ReplayError;
 ghost use Rattle.wit_stream.specs.declared.summary.ReplayError.TheVariants.{Memory};
-ghost use Rattle.wit_command.specs.declared.command.Command.TheVariants.{Demo, Migrate, Show};
+ghost use Rattle.wit_command.specs.declared.command.Command.TheVariants.{Demo, Grade, Migrate};
+ghost use Rattle.wit_command.specs.declared.command.Command.TheVariants.{Show};
 ghost use Rattle.witness.specs.declared.program.Ended.TheVariants.{Exits, ShowsThreads};
-ghost use Rattle.witness.specs.Program.{IsCutShort, IsMigratedAndExits, IsMigrationCut};
-ghost use Rattle.witness.specs.Program.{IsShownAndExits, TellsLines, TellsMovedLines};
+ghost use Rattle.witness.specs.Program.{IsCutShort, IsGradedAndExits, IsGradingCut};
+ghost use Rattle.witness.specs.Program.{IsMigratedAndExits, IsMigrationCut, IsShownAndExits};
+ghost use Rattle.witness.specs.Program.{TellsGrades, TellsLines, TellsMovedLines};
 
 use crate::complaints::refuse;
 use std::alloc::Global;
 use std::io::{BufReader, Read, Write};
 use wit_command::{Command, asked_command};
+use wit_grades::grade_facts;
 use wit_migrate::migrate;
 use wit_model::View;
 use wit_stream::{ReplayError, Summary};
@@ -37,14 +41,14 @@ pub enum Ended {
 }
 
 /// Runs the program on the words behind its name, up to its exit status: where they ask for a view
-/// of the input or its migration, that of the replay or the migration; where they ask for nothing,
-/// 2. The demonstration is left to the caller.
+/// of the input, its migration or its grades, that of the replay, the migration or the grading;
+/// where they ask for nothing, 2. The demonstration is left to the caller.
 ///
 /// Only the input is read through a buffer: what is written is in the output when this returns.
 /// What goes to `complaints` is how the program is used, at status 2, and nothing else.
 ///
 /// # Errors
-/// Those of `replay` and `migrate`; and `Memory` where memory runs out before the first line is
+/// Those of `replay`, `migrate` and `grade_facts`; and `Memory` where memory runs out before the first line is
 /// read. What was written is then a beginning of the output; where the reader failed it is the text
 /// of every whole line that was taken.
 pub fn run<R: Read + Drop, W: Write, E: Write>(
@@ -80,12 +84,22 @@ pub fn run<R: Read + Drop, W: Write, E: Write>(
     ensures migration_told { asked (bytes_of words.now) ≡ Some Migrate
         → result ≡ Err ReplayError.Read
         → TellsMovedLines (R.remaining input) (W.contents output.old) (W.contents output.new) }
+    ensures graded { asked (bytes_of words.now) ≡ Some Grade
+        → IfOk result (IsGradedAndExits (R.remaining input) (W.contents output.old)
+        (W.contents output.new)) }
+    ensures grading_cut { asked (bytes_of words.now) ≡ Some Grade
+        → OnErr result (IsGradingCut (R.remaining input) (W.contents output.old)
+        (W.contents output.new)) }
+    ensures grades_told { asked (bytes_of words.now) ≡ Some Grade
+        → result ≡ Err ReplayError.Read
+        → TellsGrades (R.remaining input) (W.contents output.old) (W.contents output.new) }
     ensures quiet { result ≢ Ok (Exits 2)
         → Keeps (E.contents complaints.old) (E.contents complaints.new) }
 {
     match asked_command(alloc, words) {
         Ok(Some(Command::Show(view))) => show(alloc, view, input, output),
         Ok(Some(Command::Migrate)) => move_on(alloc, input, output),
+        Ok(Some(Command::Grade)) => grade(alloc, input, output),
         Ok(Some(Command::Demo)) => Ok(Ended::ShowsThreads),
         Ok(None) => Ok(Ended::Exits(refuse(complaints))),
         Err(error) => Err(ReplayError::from(error)),
@@ -171,6 +185,45 @@ fn migrate_through_buffer<R: Read + Drop, W: Write>(
 {
     match BufReader::with_capacity(alloc, READ_AHEAD, input) {
         Ok(mut reader) => migrate(alloc, &mut reader, output),
+        Err(_) => Err(ReplayError::Memory),
+    }
+}
+
+// Grades the facts of the input, and says with which status to exit.
+fn grade<R: Read + Drop, W: Write>(
+    alloc: Global,
+    input: R,
+    output: &mut W,
+) -> Result<Ended, ReplayError>
+    ensures graded { IfOk result
+        (IsGradedAndExits (R.remaining input) (W.contents output.old) (W.contents output.new)) }
+    ensures cut_short { OnErr result
+        (IsGradingCut (R.remaining input) (W.contents output.old) (W.contents output.new)) }
+    ensures told { result ≡ Err ReplayError.Read → TellsGrades
+        (R.remaining input) (W.contents output.old) (W.contents output.new) }
+{
+    let graded = grade_through_buffer(alloc, input, output);
+    // A grade is no report.
+    let status = status_of(View::Graph, &graded);
+    let _summary = graded?;
+    Ok(Ended::Exits(status))
+}
+
+// Grades the facts of the input, which is read through a buffer.
+fn grade_through_buffer<R: Read + Drop, W: Write>(
+    alloc: Global,
+    input: R,
+    output: &mut W,
+) -> Result<Summary, ReplayError>
+    ensures ok { IfOk result (WritesOutput Grades
+        (R.remaining input) (W.contents output.old) (W.contents output.new)) }
+    ensures err { OnErr result
+        (IsGradingCut (R.remaining input) (W.contents output.old) (W.contents output.new)) }
+    ensures told { result ≡ Err ReplayError.Read → TellsGrades
+        (R.remaining input) (W.contents output.old) (W.contents output.new) }
+{
+    match BufReader::with_capacity(alloc, READ_AHEAD, input) {
+        Ok(mut reader) => grade_facts(alloc, &mut reader, output),
         Err(_) => Err(ReplayError::Memory),
     }
 }

@@ -1,0 +1,11 @@
+pub mod Chosen
+pub mod Courses
+pub mod Examples
+pub mod Facts
+pub mod Grades
+pub mod Keeping
+pub mod Lives
+pub mod NoneMeansNone
+pub mod Reasoned
+pub mod SameMeansSo
+pub mod Searching

@@ -1,0 +1,6 @@
+pub mod Besides
+pub mod Codecs
+pub mod Following
+pub mod Runs
+pub mod Spelled
+pub mod Words

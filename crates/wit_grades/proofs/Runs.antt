@@ -1,0 +1,52 @@
+-- What a run of grades reads and writes, by what was told in place of the machine.
+use Rattle.std.proofs.Common.{◌≡◌, ℕ, List, Option, Result, Ok, Err, IfOk, subst}
+use Rattle.wit_stream.specs.Stream.{ReadingGoesOn, OutputFrom, ReadsToEnd, WritesLines}
+use Rattle.wit_stream.specs.declared.summary.Summary.{Summary}
+use Rattle.wit_grades.specs.declared.grading.Grading.{Grading}
+use Rattle.wit_grades.specs.Grading.{told, allowed}
+use Rattle.wit_grades.specs.Outputs.{Told, GradesFrom}
+
+-- what the machine allows
+abbrev output : Grading → ℕ → List ℕ → List ℕ → Summary → Type 0
+output = OutputFrom allowed
+
+module _ (m : Grading) (t : Told) (is : told m ≡ t) where
+  goes-on : (lines text : List ℕ) → ReadingGoesOn output m lines text
+      → ReadingGoesOn GradesFrom (told m) lines text
+  goes-on lines text goes = record { at = told goes.at; on = goes.on }
+
+  -- the end of a run
+  pub run-end : {E : Type 0} (r0 r w0 w : Option (List ℕ)) (answer : Result Summary E)
+      → IfOk answer (ReadsToEnd output m r0 r w0 w)
+      → IfOk answer (ReadsToEnd GradesFrom t r0 r w0 w)
+  run-end r0 r w0 w (Err e) h = tt
+  run-end r0 r w0 w (Ok summary) h =
+      subst (λ from. ReadsToEnd GradesFrom from r0 r w0 w summary) is
+      (record {
+        lines = h.lines;
+        last = h.last;
+        told = h.told;
+        text = h.text;
+        whole = h.whole;
+        goes = goes-on h.lines h.told h.goes;
+        one = h.one;
+        read = h.read;
+        is_last = h.is_last;
+        written = h.written;
+      })
+
+  -- what stands after a failed look
+  pub run-lines : (r0 r w0 w : Option (List ℕ)) → WritesLines output m r0 r w0 w
+      → WritesLines GradesFrom t r0 r w0 w
+  run-lines r0 r w0 w h =
+      subst (λ from. WritesLines GradesFrom from r0 r w0 w) is
+      (record {
+        lines = h.lines;
+        begun = h.begun;
+        text = h.text;
+        whole = h.whole;
+        plain = h.plain;
+        goes = goes-on h.lines h.text h.goes;
+        read = h.read;
+        written = h.written;
+      })

@@ -1,0 +1,6 @@
+pub mod Answers
+pub mod Existing
+pub mod Grading
+pub mod Outputs
+pub mod Reading
+pub mod Spelling
