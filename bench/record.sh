@@ -1,7 +1,7 @@
 #!/bin/sh
 # Measures what the recorder costs: the nanoseconds of processor time that a pair of lock and unlock takes in a loop
-# that does nothing else, and its ratio to the plain loop. The loop runs plain, recorded, recorded with --held-callers
-# and with --full; with libwitness, awake and asleep, where its verifier stands built; under helgrind and drd where
+# that does nothing else, and its ratio to the plain loop. The loop runs plain, recorded, and recorded with
+# --held-callers; with libwitness, awake and asleep, where its verifier stands built; under helgrind and drd where
 # valgrind is installed; and built by the compiler for ThreadSanitizer where that can be linked. Then it measures what a
 # start of a program takes, what taking and freeing a block costs while a mutex stands in the heap, the processor time of
 # node under work, and how long a recorder's file takes to become a trace. Of RUNS runs (5) the least counts; the ways take
@@ -18,22 +18,19 @@ cc -O2 -o "$folder/starts" "$here/starts.c"
 # This builds the recorder where it isn't there; no trace is replayed here.
 WITNESS=true "$recorder/record" -- true 2>/dev/null
 
-# recorded STREAMS COMMAND..: under the recorder, whose file is thrown away.
+# recorded COMMAND..: under the recorder, whose file is thrown away.
 recorded() {
-    streams=$1
-    shift
     rm -rf "$folder/records"
     mkdir "$folder/records"
-    env RECORDER_DIRECTORY="$folder/records" RECORDER_STREAMS="$streams" ${blocks:+RECORDER_BLOCKS=1} \
+    env RECORDER_DIRECTORY="$folder/records" ${blocks:+RECORDER_BLOCKS=1} \
         LD_PRELOAD="${blocks:+$recorder/out/blocks.so:}$recorder/out/recorder.so" "$@"
 }
 
 once() {
     case $1 in
     plain) "$folder/pairs" "$2" "$3" 400000 ;;
-    recorded) recorded condensed "$folder/pairs" "$2" "$3" 400000 ;;
-    held) RECORDER_HELD=1 RECORDER_FRAMES=8 recorded condensed "$folder/pairs" "$2" "$3" 400000 ;;
-    full) recorded full "$folder/pairs" "$2" "$3" 100000 ;;
+    recorded) recorded "$folder/pairs" "$2" "$3" 400000 ;;
+    held) RECORDER_HELD=1 RECORDER_FRAMES=8 recorded "$folder/pairs" "$2" "$3" 400000 ;;
     watched) WITNESS=1 WITNESS_LOG="$folder/log" LD_PRELOAD="$folder/libwitness/libwitness.so" "$folder/pairs" "$2" "$3" 400000 ;;
     asleep) LD_PRELOAD="$folder/libwitness/libwitness.so" "$folder/pairs" "$2" "$3" 400000 ;;
     helgrind | drd) valgrind -q --tool="$1" "$folder/pairs" "$2" "$3" 20000 2>/dev/null ;;
@@ -42,7 +39,7 @@ once() {
     esac
 }
 
-ways="plain recorded held full"
+ways="plain recorded held"
 if "$here/../libwitness/build" "$folder/libwitness"; then
     ways="$ways watched asleep"
 fi
@@ -54,7 +51,7 @@ if cc -O2 -g -fsanitize=thread -pthread -o "$folder/pairs-tsan" "$here/../record
     ways="$ways tsan"
 fi
 echo "nanoseconds a pair, and the ratio to plain"
-for shape in "1 1" "2 1" "1 4" "2 4"; do
+for shape in "1 1" "2 1" "5 1" "23 1" "1 4" "2 4" "5 4" "23 4"; do
     for way in $ways; do
         : >"$folder/$way"
     done
@@ -112,7 +109,7 @@ compared() {
 
 one_free() {
     if [ -n "${measured-}" ]; then
-        recorded condensed "$folder/frees" "$1" "$2"
+        recorded "$folder/frees" "$1" "$2"
     else
         "$folder/frees" "$1" "$2"
     fi
@@ -120,7 +117,7 @@ one_free() {
 
 one_node() {
     if [ -n "${measured-}" ]; then
-        seconds recorded condensed node "$here/load.js"
+        seconds recorded node "$here/load.js"
     else
         seconds node "$here/load.js"
     fi
@@ -137,9 +134,13 @@ done
 if command -v node >/dev/null; then
     compared "seconds of node" one_node
 fi
+# A recorder that writes each request.
+cc -std=c11 -D_GNU_SOURCE -DWRITE_ALL -O2 -fPIC -shared -fexceptions -fvisibility=hidden -pthread -static-libgcc -Wl,-z,now \
+    -o "$folder/all.so" "$recorder"/*.c "$here/../crates/wit_condensed_c/out/libwit_condensed_c.a" -Wl,--exclude-libs,ALL -ldl
 for rounds in 138000 1380000; do
-    recorded full "$folder/pairs" 4 1 "$rounds" >/dev/null
-    file=$(echo "$folder"/records/*.full)
+    rm -rf "$folder/records" && mkdir "$folder/records"
+    env RECORDER_DIRECTORY="$folder/records" LD_PRELOAD="$folder/all.so" "$folder/pairs" 4 1 "$rounds" >/dev/null
+    file=$(echo "$folder"/records/*.0)
     begin=$(date +%s)
     "$recorder/record" --trace "$file" >"$folder/trace"
     echo "resolving $(wc -l <"$folder/trace") lines: $(($(date +%s) - begin)) s"

@@ -47,7 +47,7 @@ static uint32_t made(struct question *question, const char *name, const char *of
 static uint32_t made_as(struct question *question, const struct lock *lock)
 {
     char name[NAME_ROOM], of[NAME_ROOM];
-    name_any(name, of, lock, judged_stream());
+    name_any(name, of, lock);
     return made(question, name, of, lock->type->class == RWLOCK || lock->type->class == TOLD_RWLOCK ? WIT_RW : WIT_SLEEP_MUTEX, lock->recursive);
 }
 

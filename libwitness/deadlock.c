@@ -53,7 +53,7 @@ bool judge_watches_waits(void)
 void deadlock_asked(const struct thread *thread, uint32_t place)
 {
     if (action != UNWATCHED)
-        asked[thread->seat[judged_stream()]] = (struct asked){thread_number(thread), place, thread->asks_for_a_time};
+        asked[thread->seat] = (struct asked){thread_number(thread), place, thread->asks_for_a_time};
 }
 
 /* The seats of a circle that the thread's own seat is in; 0 where it is in none. */
@@ -62,7 +62,7 @@ static int64_t circle_of(const struct thread *thread, uint16_t seats[SEATS])
     struct wit_place *place = judged_place();
     int64_t count = place ? wit_circle(place, seats, SEATS) : 0;
     for (int64_t i = 0; i < count; i++)
-        if (seats[i] == thread->seat[judged_stream()])
+        if (seats[i] == thread->seat)
             return count;
     return 0;
 }
@@ -70,7 +70,7 @@ static int64_t circle_of(const struct thread *thread, uint16_t seats[SEATS])
 bool judge_sees_circle(const struct request *request)
 {
     uint16_t seats[SEATS];
-    return action != UNWATCHED && request->pending >> judged_stream() & 1 && circle_of(request->thread, seats) > 0;
+    return action != UNWATCHED && request->pending && circle_of(request->thread, seats) > 0;
 }
 
 static size_t put_waits(char *to, size_t room, struct wit_place *place, uint16_t seat)
@@ -106,7 +106,7 @@ static void keep_circle(const uint16_t *seats, int64_t count)
 static void keep_itself(const struct request *request)
 {
     char name[NAME_ROOM], of[NAME_ROOM], text[2 * NAME_ROOM];
-    name_any(name, of, request->lock, judged_stream());
+    name_any(name, of, request->lock);
     int length = snprintf(text, sizeof text, "circle:\n a thread waits for \"%s\" that it holds itself\n", name);
     char *kept = report_kept(WITNESS_DEADLOCK, (size_t)length);
     may_end = false;

@@ -1,7 +1,6 @@
 /*
- * Gives the verifier each line of a stream while it is written, under the recorder's mutex: the condensed stream's, or
- * the full one's where that is the only one. Locks and seats have the stream's numbers: both count the lines of `init`.
- * The head of recorder/write.c says why the lines are a legal history.
+ * Gives the verifier each line of the stream while it is written, under the recorder's mutex. Locks and seats have the
+ * stream's numbers: both count the lines of `init`. The head of recorder/write.c says why the lines are a legal history.
  *
  * The verifier is made at the first line. So a program, or a child of fork, that never asks for a second lock has none.
  */
@@ -22,8 +21,6 @@ enum { CHUNKS = SEATS * (HELD_MOST / 5 + 1), JUDGED_LOG = 1 << 22 };
 
 static struct wit_place place;
 static enum { UNBORN, JUDGES, OVER } state;
-static int judged; /* the stream */
-static bool all_held;
 /* The file's number of each place, 0 where it has none yet. */
 static uint16_t files[PLACES + 1];
 
@@ -55,15 +52,12 @@ void judge_lacks_memory(void)
 
 void judge_begins(void)
 {
-    const char *profile = secure_getenv("WITNESS_PROFILE");
     tell_begins();
     reports_begin();
     lists_begin();
     deadlock_begins();
-    judged = writes[CONDENSED] ? CONDENSED : FULL;
-    all_held = profile && strcmp(profile, "all") == 0;
-    if (profile && *profile && !all_held && strcmp(profile, "plain") != 0)
-        tell_line("WITNESS_PROFILE is all or plain, not %s: it is plain", profile);
+    if (secure_getenv("WITNESS_PROFILE"))
+        tell_line("WITNESS_PROFILE is gone: a request is compared with all locks that its thread holds, always");
 }
 
 void judge_has_news(enum news what)
@@ -86,19 +80,19 @@ static int64_t made_with(const struct lists *lists)
 {
     static const struct wit_sizes sizes = {SEATS, TYPES, LOCKS, CHUNKS, JUDGED_LOG};
     uint64_t refused = 0;
-    int64_t answer = wit_new(&place, &sizes, all_held, lists->lists, lists->lists_count, lists->pairs, lists->pairs_count,
+    int64_t answer = wit_new(&place, &sizes, true, lists->lists, lists->lists_count, lists->pairs, lists->pairs_count,
         &refused);
     if (answer >= 0 || refused == 0 || answer == WIT_OUT_OF_MEMORY)
         return answer;
     refused_list = refused;
     refused_for = answer;
     judge_has_news(NEWS_LISTS);
-    return wit_new(&place, &sizes, all_held, lists->lists, 0, lists->pairs, lists->pairs_count, &refused);
+    return wit_new(&place, &sizes, true, lists->lists, 0, lists->pairs, lists->pairs_count, &refused);
 }
 
-static bool is_judged(int stream)
+static bool is_judged(void)
 {
-    if (stream != judged || state == OVER)
+    if (state == OVER)
         return false;
     if (state == UNBORN) {
         int64_t answer = made_with(lists_named());
@@ -110,17 +104,12 @@ static bool is_judged(int stream)
     return state == JUDGES;
 }
 
-int judged_stream(void)
-{
-    return judged;
-}
-
 struct wit_place *judged_place(void)
 {
-    return is_judged(judged) ? &place : NULL;
+    return is_judged() ? &place : NULL;
 }
 
-/* The child's streams begin anew, and so does what is known. */
+/* The child's stream begins anew, and so does what is known. */
 void judge_forked(void)
 {
     atomic_store(&told, 0);
@@ -158,15 +147,15 @@ static void took(int64_t answer)
         keep_report(answer);
 }
 
-void judge_made(int stream, const struct thread *thread, const struct lock *lock)
+void judge_made(const struct thread *thread, const struct lock *lock)
 {
     char name[NAME_ROOM];
-    if (!is_judged(stream))
+    if (!is_judged())
         return;
-    uint32_t type = *mark(&lock->type->marks, stream);
+    uint32_t type = *mark(&lock->type->marks);
     const char *of = *type_name(type) ? type_name(type) : name_type(lock->type, type);
     name_lock(name, lock, of);
-    int64_t made = wit_init(&place, (uint16_t)thread->seat[stream], name, strlen(name), of, strlen(of),
+    int64_t made = wit_init(&place, (uint16_t)thread->seat, name, strlen(name), of, strlen(of),
         lock->type->class == RWLOCK || lock->type->class == TOLD_RWLOCK ? WIT_RW : WIT_SLEEP_MUTEX,
         (uint8_t)((lock->recursive ? WIT_LOCK_RECURSABLE : 0) | (is_doubled(of) ? WIT_LOCK_DUPOK : 0)));
     if (made < 0)
@@ -191,39 +180,39 @@ static uint16_t file_of(uint32_t at)
     return files[at];
 }
 
-void judge_asked(int stream, const struct thread *thread, uint32_t lock, uint8_t mode, uint32_t at)
+void judge_asked(const struct thread *thread, uint32_t lock, uint8_t mode, uint32_t at)
 {
-    uint16_t file = is_judged(stream) ? file_of(at) : 0;
+    uint16_t file = is_judged() ? file_of(at) : 0;
     if (!file)
         return;
     deadlock_asked(thread, at);
-    took(wit_check(&place, (uint16_t)thread->seat[stream], lock, mode == EXCLUSIVE, WIT_OP_NEWORDER, file,
+    took(wit_check(&place, (uint16_t)thread->seat, lock, mode == EXCLUSIVE, WIT_OP_NEWORDER, file,
         place_line(at)));
 }
 
-void judge_tried(int stream, const struct thread *thread, uint32_t lock, uint8_t mode, uint32_t at)
+void judge_tried(const struct thread *thread, uint32_t lock, uint8_t mode, uint32_t at)
 {
-    uint16_t file = is_judged(stream) ? file_of(at) : 0;
+    uint16_t file = is_judged() ? file_of(at) : 0;
     if (file)
-        took(wit_note_try(&place, (uint16_t)thread->seat[stream], lock, mode == EXCLUSIVE, file, place_line(at)));
+        took(wit_note_try(&place, (uint16_t)thread->seat, lock, mode == EXCLUSIVE, file, place_line(at)));
 }
 
-void judge_got(int stream, const struct thread *thread, uint32_t lock)
+void judge_got(const struct thread *thread, uint32_t lock)
 {
-    if (is_judged(stream))
-        took(wit_note(&place, (uint16_t)thread->seat[stream], lock));
+    if (is_judged())
+        took(wit_note(&place, (uint16_t)thread->seat, lock));
 }
 
-void judge_gave_up(int stream, const struct thread *thread, uint32_t lock)
+void judge_gave_up(const struct thread *thread, uint32_t lock)
 {
-    if (is_judged(stream))
-        took(wit_give_up(&place, (uint16_t)thread->seat[stream], lock));
+    if (is_judged())
+        took(wit_give_up(&place, (uint16_t)thread->seat, lock));
 }
 
-void judge_released(int stream, const struct thread *thread, uint32_t lock, uint8_t mode)
+void judge_released(const struct thread *thread, uint32_t lock, uint8_t mode)
 {
-    if (is_judged(stream))
-        took(wit_unlock(&place, (uint16_t)thread->seat[stream], lock, mode == EXCLUSIVE));
+    if (is_judged())
+        took(wit_unlock(&place, (uint16_t)thread->seat, lock, mode == EXCLUSIVE));
 }
 
 void judge_missed(enum missed what)

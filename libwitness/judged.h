@@ -5,12 +5,10 @@
 #include "../recorder/recorder.h"
 #include "verifier.h"
 
-/* The stream whose lines are judged. */
-int judged_stream(void);
 /* The verifier, NULL where nothing is judged any more. */
 struct wit_place *judged_place(void);
 
-/* What is told once, when the mutex is left. After these come the streams' own limits (judge.c). */
+/* What is told once, when the mutex is left. After these come the stream's own limits (judge.c). */
 enum news { NEWS_OVER = MISSES, NEWS_LISTS, NEWS_AGAINST, NEWS_ONE_TYPE, NEWS_UNDEFINED };
 void judge_has_news(enum news what);
 

@@ -297,9 +297,9 @@ void name_lock(char to[NAME_ROOM], const struct lock *lock, const char *name_of_
     }
 }
 
-void name_any(char to[NAME_ROOM], char of[NAME_ROOM], const struct lock *lock, int stream)
+void name_any(char to[NAME_ROOM], char of[NAME_ROOM], const struct lock *lock)
 {
-    uint32_t number = *mark(&lock->type->marks, stream);
+    uint32_t number = *mark(&lock->type->marks);
     if (number <= TYPES && *type_names[number])
         memcpy(of, type_names[number], NAME_ROOM);
     else

@@ -12,7 +12,7 @@ const char *name_type(const struct type *type, uint32_t number);
 const char *type_name(uint32_t number);
 void names_forgotten(void);
 /* Names a lock and its type, whether they have numbers or not. */
-void name_any(char to[NAME_ROOM], char of[NAME_ROOM], const struct lock *lock, int stream);
+void name_any(char to[NAME_ROOM], char of[NAME_ROOM], const struct lock *lock);
 /* Names a lock of which nothing is known but its address. */
 void name_unmet(char to[NAME_ROOM], uintptr_t address);
 /* Names a lock, whose type has that name. */

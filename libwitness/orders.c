@@ -26,7 +26,7 @@ static bool defines(const struct thread *thread, const struct wanted *order)
         return false;
     if (!order->number[FIRST] || !order->number[SECOND])
         return true;
-    int64_t answer = wit_define_order(place, (uint16_t)thread->seat[judged_stream()], order->number[FIRST],
+    int64_t answer = wit_define_order(place, (uint16_t)thread->seat, order->number[FIRST],
         order->number[SECOND]);
     if (answer < 0)
         judge_has_news(answer == -21 ? NEWS_ONE_TYPE : answer == -20 ? NEWS_AGAINST : NEWS_UNDEFINED);
@@ -68,15 +68,14 @@ static bool is_kept(const struct wanted *order)
 /* What is known already has its number now. */
 static bool order_named(struct thread *thread, struct wanted *order)
 {
-    int stream = judged_stream();
-    if (!stream_has_room(stream) || !seat_taken(stream, thread))
+    if (!stream_has_room() || !seat_taken(thread))
         return false;
     for (int which = FIRST; which <= SECOND; which++) {
         struct lock *lock = lock_at((const void *)order->address[which]);
-        order->number[which] = lock ? lock_number(stream, thread, lock) : 0;
+        order->number[which] = lock ? lock_number(thread, lock) : 0;
     }
     bool is_right = defines(thread, order);
-    seat_given_back(stream, thread);
+    seat_given_back(thread);
     return is_right && is_kept(order);
 }
 
@@ -96,15 +95,14 @@ EXPORT int witness_define_order(const volatile void *first, const volatile void 
 
 EXPORT int witness_watch(int level)
 {
-    int stream = judged_stream();
     bool is_set = false;
     if (!chain_opens(HERE))
         return 0;
     if (recorder_enters()) {
         struct wit_place *place = judged_place();
-        if (place && seat_taken(stream, &self)) {
-            is_set = wit_set_watch(place, (uint16_t)self.seat[stream], level) >= 0;
-            seat_given_back(stream, &self);
+        if (place && seat_taken(&self)) {
+            is_set = wit_set_watch(place, (uint16_t)self.seat, level) >= 0;
+            seat_given_back(&self);
         }
         recorder_leaves();
     }

@@ -61,7 +61,7 @@ static void put_holders(struct shown *shown)
         const struct lock *lock = lock_held_from(&at, &holder);
         if (!lock)
             break;
-        name_any(name, of, lock, judged_stream());
+        name_any(name, of, lock);
         snprintf(line, sizeof line, " \"%s\" by thread %d\n", name, (int)holder);
         put(shown, line);
     }

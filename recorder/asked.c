@@ -26,36 +26,45 @@ int32_t mutex_holder(uintptr_t address)
     return mutex.__data.__lock == 0 ? 0 : mutex.__data.__owner;
 }
 
-static void write_answer(int stream, struct thread *thread)
+/* As mutex_holder, of the writer that has the lock; 0 where readers have it, too. */
+int32_t rwlock_writer(uintptr_t address)
+{
+    pthread_rwlock_t lock;
+    struct iovec here = {&lock, sizeof lock}, there = {(void *)address, sizeof lock};
+    if (process_vm_readv(getpid(), &here, 1, &there, 1, 0) != (ssize_t)sizeof lock)
+        return 0;
+    return lock.__data.__cur_writer;
+}
+
+static void write_answer(struct thread *thread)
 {
     int32_t holder;
-    if (!stream_has_room(stream) || !seat_taken(stream, thread))
+    if (!stream_has_room() || !seat_taken(thread))
         return;
-    put_text(stream, WORD_ANSWER "\n");
-    stream_append(stream, false);
+    put_text(WORD_ANSWER "\n");
+    stream_append(false);
     for (uint32_t at = 0; at < LOCKS_ALIVE; at++) {
         struct lock *lock = lock_held_from(&at, &holder);
-        uint32_t number = lock ? lock_number(stream, thread, lock) : 0;
+        uint32_t number = lock ? lock_number(thread, lock) : 0;
         if (number == 0)
             continue;
-        put_text(stream, WORD_HOLDER);
-        put_number(stream, number);
-        put_number(stream, (uint64_t)holder);
-        put_text(stream, "\n");
-        stream_append(stream, false);
+        put_text(WORD_HOLDER);
+        put_number(number);
+        put_number((uint64_t)holder);
+        put_text("\n");
+        stream_append(false);
     }
-    seat_given_back(stream, thread);
+    seat_given_back(thread);
 }
 
 /* The thread is inside the recorder, and asks for nothing yet. */
 COLD void answer(struct thread *thread)
 {
-    if (!(stream_is_asked(CONDENSED) || stream_is_asked(FULL)) || !recorder_enters())
+    if (!stream_is_asked() || !recorder_enters())
         return;
-    for (int stream = 0; stream < STREAMS; stream++)
-        if (stream_is_asked(stream)) {
-            write_answer(stream, thread);
-            stream_is_answered(stream);
-        }
+    if (stream_is_asked()) {
+        write_answer(thread);
+        stream_is_answered();
+    }
     recorder_leaves();
 }

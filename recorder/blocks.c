@@ -425,7 +425,7 @@ bool block_around(uintptr_t address, uint64_t *offset, uint32_t takers[DEPTH_MOS
         return false;
     if (!(word = find_near(address, &from)) && !(word = find_wide(address, &from))) {
         if (may_be_lost())
-            count_missed_all(MISSED_BLOCKS);
+            count_missed(MISSED_BLOCKS);
         return false;
     }
     *offset = address - from;

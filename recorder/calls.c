@@ -69,6 +69,8 @@ static int c11(int answer)
     do {                                                                                                   \
         struct request request;                                                                            \
         bool begun = request_begins(&request, address, (way).class, (way).mode, CALLER, ASKS_FOR_A_TIME);  \
+        if (UNLIKELY(steers) && begun)                                                                     \
+            steer_counts(&request);                                                                        \
         int answer = (call);                                                                               \
         if (begun)                                                                                         \
             request_ends(&request, is_got(answer));                                                        \
@@ -233,6 +235,18 @@ static void end_wait(void *wait_over)
         wait_ends(&wait->request, wait->answer);
 }
 
+/* In a steered run the thread may give the mutex back and pause: to the program the wait has got its mutex later. */
+static COLD void wait_once_more(struct wait *wait, void *mutex)
+{
+    if (!wait->recorded || (wait->answer != 0 && wait->answer != ETIMEDOUT) || !steer_wait_pauses())
+        return;
+    real.mutex_unlock(mutex);
+    steer_pauses_after_wait(&wait->request);
+    int answer = real.mutex_lock(mutex);
+    if (answer != 0)
+        wait->answer = answer;
+}
+
 #define WAIT(mutex, asks_again, call, answered)                                                                     \
     do {                                                                                                   \
         struct wait wait = {.answer = 0};                                                                  \
@@ -241,7 +255,11 @@ static void end_wait(void *wait_over)
         if (!wait.recorded)                                                                                \
             error_of_wait((const pthread_mutex_t *)(mutex), CALLER);                                       \
         pthread_cleanup_push(end_wait, &wait);                                                             \
+        if (UNLIKELY(steers) && wait.recorded)                                                             \
+            steer_wait_begins(&wait.request);                                                              \
         wait.answer = (call);                                                                              \
+        if (UNLIKELY(steers))                                                                              \
+            wait_once_more(&wait, mutex);                                                                  \
         pthread_cleanup_pop(1);                                                                            \
         return answered(wait.answer);                                                                      \
     } while (0)

@@ -1,14 +1,8 @@
-/*
- * What each thread holds, oldest first, and the tree of chains.
- *
- * A node of the tree stands for a chain of types: its parent is the chain without the last. A node is marked as
- * requested once its last type was asked for behind its parent, by a call that may block, and the stream has it. A
- * request that leads to such a node tells nothing new, and costs no line: write.c says why. The tree is read without
- * the mutex, and a node never moves.
- */
+/* What each thread holds, oldest first, and what it asks for. */
 #include "quick.h"
 
 #include "judge.h"
+#include "steer.h"
 
 #include <errno.h>
 #include <string.h>
@@ -21,64 +15,13 @@ struct block {
 };
 
 _Atomic uint32_t lost_total;
-struct node *nodes;
-static uint32_t nodes_made;
+struct wit_condensed *pairs;
 static struct block *free_blocks;
 
 bool chains_made(void)
 {
-    nodes = table(NODES * sizeof *nodes);
-    return nodes != NULL;
-}
-
-void node_set_requested(uint32_t node, bool whole)
-{
-    if (node_is_there(node))
-        atomic_fetch_or_explicit(&nodes[node - 1].requested, whole ? REQUESTED : HALF_REQUESTED, memory_order_release);
-}
-
-/* As node_of, and makes the node; under the mutex. */
-uint32_t node_made(uint32_t parent, uint32_t type)
-{
-    uint32_t node = node_of(parent, type);
-    if (node != 0)
-        return node;
-    if (nodes_made >= NODES / 4 * 3)
-        return NODE_UNKNOWN;
-    uint64_t key = node_key(parent, type);
-    uint32_t slot = node_slot(key);
-    while (atomic_load_explicit(&nodes[slot].key, memory_order_relaxed) != 0)
-        slot = (slot + 1) % NODES;
-    nodes_made++;
-    atomic_store_explicit(&nodes[slot].key, key, memory_order_release);
-    return slot + 1;
-}
-
-static uint32_t node_needed(uint32_t parent, uint32_t type)
-{
-    uint32_t node = node_of(parent, type);
-    if (LIKELY(node != 0))
-        return node;
-    if (!recorder_enters())
-        return NODE_UNKNOWN;
-    node = node_made(parent, type);
-    recorder_leaves();
-    return node;
-}
-
-/* The chain of all that the thread holds, 0 for the empty one. Most chains are never asked for: they get no node. */
-static inline uint32_t last_node(struct thread *thread)
-{
-    uint32_t at = thread->count;
-    while (at > 0 && thread->held[at - 1].node == 0)
-        at--;
-    for (; at < thread->count; at++) {
-        struct held *held = &thread->held[at];
-        held->node = node_needed(at == 0 ? 0 : held[-1].node, held->type);
-        if (at == 0)
-            atomic_store_explicit(&held->lock->type->root, held->node, memory_order_relaxed);
-    }
-    return at == 0 ? 0 : thread->held[at - 1].node;
+    pairs = table(sizeof *pairs);
+    return pairs != NULL;
 }
 
 /* As held_of, by the lock's address. What is held and isn't lost has its record still. */
@@ -127,10 +70,8 @@ static void take_out(struct thread *thread, struct held *held)
     thread->count--;
     if (UNLIKELY(at != thread->count)) {
         memmove(held, held + 1, (thread->count - at) * sizeof *held);
-        held->moved = at != 0;
         for (uint32_t i = at; i < thread->count; i++) {
             struct held *left = &thread->held[i];
-            left->node = 0;
             left->locks = locks_with(i ? left[-1].locks : 0, left->lock, left->mode);
         }
     }
@@ -148,8 +89,8 @@ COLD static void drop_lost(struct thread *thread)
         struct held *held = &thread->held[i];
         if (held->lost == atomic_load(&held->lock->lost))
             continue;
-        if (held->written)
-            write_unlock(thread, held, true);
+        if (held->written & IS_WRITTEN)
+            write_unlock(thread, held);
         take_out(thread, held);
     }
 }
@@ -178,11 +119,11 @@ static bool may_recur(const struct held *held, const struct request *request)
                                    : held->mode == EXCLUSIVE && request->lock->recursive;
 }
 
-/* Nothing like it was asked for before, or it is repeated for so long that it counts as a wait. */
+/* It tells something new, or is repeated for so long that it counts as a wait. */
 static void write_new(void *argument)
 {
     struct request *request = argument;
-    if (!node_is_requested(request->node) || request->repeats)
+    if (request->repeats || !chain_is_told(request->thread, request->lock->type))
         request->stack = stack_of(request->caller);
     write_request(request);
 }
@@ -196,25 +137,20 @@ static void look_for_circle(void *request)
 static void consider(struct request *request)
 {
     if (request->again) {
-        if (may_recur(request->again, request)) {
-            write_again(request, request->again);
-            /* A reader comes behind writers that wait, where the lock prefers them: these wait for it. */
-            request->patient = request->mode == SHARED;
-        } else {
-            request->again_refused = request->patient = true;
-        }
+        request->again_refused = !may_recur(request->again, request);
+        /* A reader comes after writers that wait, where the lock prefers them: these wait for it. */
+        request->patient = request->again_refused || request->mode == SHARED;
         return;
     }
-    request->parent = last_node(request->thread);
-    request->node = node_of(request->parent, request->lock->type->number);
     bool waits = request->repeats && !request->pending;
-    request->patient = waits;
-    if (!node_is_requested(request->node) || waits || writes_all)
+    bool is_told = chain_is_told(request->thread, request->lock->type);
+    request->patient = waits || is_told;
+    if (!is_told || waits || WRITES_ALL) {
+        request->patient = waits;
         aside(write_new, request);
-    else
-        request->patient = true;
-    if (request->node && request->thread->count != 0)
-        order_noted(request);
+    }
+    if (request->thread->count != 0)
+        pairs_noted(request);
     if (waits)
         aside(look_for_circle, request);
 }
@@ -240,13 +176,12 @@ static void fill(struct request *request, const struct beginning *it, struct loc
     request->caller = it->caller;
     request->place = it->place ? it->place : place_of(it->caller);
     request->stack = it->place ? 0 : stack_of_held(request->place, it->caller);
-    request->node = 0;
     request->mode = it->mode;
     request->tried = it->asking == TRIES;
     request->timed = it->asking == ASKS_FOR_A_TIME;
     request->ends_wait = request->repeats = false;
     request->patient = request->again_refused = request->waited_for_itself = false;
-    request->pending = 0;
+    request->pending = false;
     if (UNLIKELY(request->timed || thread->repeated.lingers))
         repeat_counts(request);
 }
@@ -254,7 +189,7 @@ static void fill(struct request *request, const struct beginning *it, struct loc
 static inline void begin_inside(struct beginning *it, struct lock *lock)
 {
     fill(it->request, it, lock);
-    if (!it->request->tried && (self.count != 0 || writes_all))
+    if (!it->request->tried && (self.count != 0 || WRITES_ALL))
         consider(it->request);
     it->begun = true;
 }
@@ -330,7 +265,7 @@ static void waits_aside(void *argument)
         write_waits_for_itself(request);
     else if (request->again)
         write_waits_behind(request);
-    else if (streams_have_files() || judge_watches_waits())
+    else if (stream_has_file() || judge_watches_waits())
         write_request(request);
     judge_waits(request);
 }
@@ -352,14 +287,11 @@ static inline void add_held(struct request *request)
         return;
     }
     struct held *held = &thread->held[thread->count];
-    held_fill(held, thread->count != 0, request->lock, request->place, request->node,
-        locks_with(locks_held(thread), request->lock, request->mode), request->mode);
+    held_fill(held, request->lock, request->place, locks_with(locks_held(thread), request->lock, request->mode), request->mode);
     held->lost = atomic_load_explicit(&request->lock->lost, memory_order_relaxed);
     held->tried = request->tried;
-    if (request->tried && thread->count != 0)
-        held->after_try = 1;
     held->stack = (uint16_t)request->stack;
-    if (request->pending || (writes_all && request->tried))
+    if (request->pending)
         write_acquired(request, held);
     thread->count++;
 }
@@ -370,12 +302,10 @@ static inline void add_held(struct request *request)
  */
 COLD static void take_as_tried(struct request *request)
 {
-    for (int stream = 0; stream < STREAMS; stream++) {
-        if ((request->pending >> stream & 1) && request->thread->asked[stream] != request->number[stream]) {
-            request->pending &= (uint8_t)~(1u << stream);
-            request->tried = true;
-        }
-    }
+    if (request->thread->asked == request->number)
+        return;
+    request->pending = false;
+    request->tried = true;
 }
 
 static __attribute__((noinline)) void ends(struct request *request, bool got)
@@ -389,7 +319,6 @@ static __attribute__((noinline)) void ends(struct request *request, bool got)
             write_goes_on(request);
         drop_lost(thread);
         request->again = held_of(thread, request->lock);
-        request->node = 0;
         request->tried = true;
     }
     if (LIKELY(got && !request->again)) {
@@ -403,10 +332,8 @@ static __attribute__((noinline)) void ends(struct request *request, bool got)
         request->again->count++;
         request->again->place = request->place;
         request->again->stack = (uint16_t)request->stack;
-        if (request->pending >> CONDENSED & 1)
-            write_waits_behind_no_more(request);
-        if (writes_all)
-            write_acquired(request, request->again);
+        if (request->pending)
+            write_given_up(request);
     }
     goes_outside(thread);
 }
@@ -424,7 +351,7 @@ static void refused_aside(void *request)
 /* The call has returned, with the lock or without. */
 void request_ends(struct request *request, bool got)
 {
-    if (!request->pending && !request->again_refused && !writes_all && self.count != self.room)
+    if (!request->pending && !request->again_refused && self.count != self.room)
         ends(request, got);
     else
         aside(got ? got_aside : refused_aside, request);
@@ -441,15 +368,12 @@ static void mark_under(struct thread *thread, const struct held *held)
 
 static void released(struct thread *thread, struct held *held)
 {
-    bool whole = held->count == 1;
-    if (held->written)
-        write_unlock(thread, held, whole);
-    if (whole) {
-        mark_under(thread, held);
-        take_out(thread, held);
-    } else {
-        held->count--;
-    }
+    if (--held->count > 0)
+        return;
+    if (held->written & IS_WRITTEN)
+        write_unlock(thread, held);
+    mark_under(thread, held);
+    take_out(thread, held);
 }
 
 static COLD void released_by_another(struct thread *thread, struct lock *lock, struct caller caller)
@@ -588,10 +512,12 @@ bool wait_begins(struct request *request, const void *address, bool asks_again, 
 void wait_ends(struct request *request, int answer)
 {
     struct thread *thread = request->thread;
+    if (UNLIKELY(steers))
+        steer_wait_ends();
     waiter_ends(request);
     request->again = held_of(thread, request->lock);
     request->tried = !(request->pending || answer == 0 || answer == ETIMEDOUT || answer == EOWNERDEAD);
-    if (!request->pending && !request->tried && (thread->count != 0 || writes_all)) {
+    if (!request->pending && !request->tried && (thread->count != 0 || WRITES_ALL)) {
         consider(request);
         judge_tells(request->caller);
     }
@@ -601,16 +527,14 @@ void wait_ends(struct request *request, int answer)
 void chains_forked(void)
 {
     struct thread *thread = &self;
-    madvise(nodes, NODES * sizeof *nodes, MADV_DONTNEED);
-    nodes_made = 0;
     thread->repeated = (struct repeated){0};
-    for (int stream = 0; stream < STREAMS; stream++)
-        thread->seat[stream] = thread->last_seat[stream] = thread->written[stream] = thread->asked[stream] = 0;
+    thread->seat = thread->last_seat = thread->written = thread->asked = 0;
+    forget_requests(thread);
+    madvise(pairs, sizeof *pairs, MADV_DONTNEED);
     for (uint32_t i = 0; i < thread->count; i++) {
         struct held *held = &thread->held[i];
         held->written = 0;
-        held->node = 0;
-        held->moved = held->has_under = 0;
+        held->has_under = 0;
         held->before_fork = 1;
     }
 }

@@ -114,7 +114,7 @@ static void tell_reread(void *argument)
     const struct request *request = argument;
     if (!recorder_enters())
         return;
-    count_missed_all(MISSED_REREADS);
+    count_missed(MISSED_REREADS);
     if (request->lock->type->class != TOLD_RWLOCK)
         tell(ERROR_REREAD, request->lock, request->place);
     recorder_leaves();

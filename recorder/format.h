@@ -7,7 +7,7 @@
 #define RECORDER_FORMAT_H
 
 /* The first line of a stream is `asked 0 version N missed`, then the names of the counts, each with its count. */
-#define FORMAT_VERSION 5
+#define FORMAT_VERSION 6
 #define WORD_ASKED "asked"
 #define WORD_VERSION "version"
 #define WORD_MISSED "missed"
@@ -40,6 +40,7 @@ enum { ASKED_AT = 6, ASKED_NOT = '0', ASKED_NOW = '1', ASKED_ALWAYS = '3' };
 #define INIT_RECURSIVE "r"
 #define INIT_SHARED "s"
 #define WORD_THREAD "thread"
+#define WORD_LENT "lent"
 /* What stands where there is no name. */
 #define NO_NAME "-"
 /*
@@ -54,12 +55,9 @@ enum { ASKED_AT = 6, ASKED_NOT = '0', ASKED_NOW = '1', ASKED_ALWAYS = '3' };
 #define WORD_UNLOCK "unlock"
 #define WORD_TRY "try"
 #define WORD_GIVEUP "giveup"
-/*
- * Of a `check`: it is a request; or it stands for one that was made when another lock was held just before, which was
- * released since (write.c).
- */
+/* Of a `check`: the stream needs it; or it doesn't, since each of its pairs was told, as a build for tests writes it (write.c). */
 #define CHECK_ASKS "n"
-#define CHECK_MOVED "m"
+#define CHECK_KNOWN "k"
 
 /* What a trace has no line for. */
 #define WORD_AGAIN "again"
@@ -67,6 +65,8 @@ enum { ASKED_AT = 6, ASKED_NOT = '0', ASKED_NOW = '1', ASKED_ALWAYS = '3' };
 #define WORD_FOREIGN "foreign"
 #define WORD_ANSWER "answer"
 #define WORD_HOLDER "holder"
+#define WORD_OWNER "owner"
+#define WORD_TIME "time"
 
 /* Errors in the use of locks: this word, then what was done to a held lock, or without it. */
 #define WORD_ERROR "error"
@@ -79,11 +79,11 @@ enum { ASKED_AT = 6, ASKED_NOT = '0', ASKED_NOW = '1', ASKED_ALWAYS = '3' };
     EACH(ERROR_REREAD, "reread")
 
 /*
- * The orders of single locks, and when threads were made and joined (singles.c). A thread tells of its order again when it
- * has made another thread; so often it tells of it at most.
+ * The pairs of single locks (single_pairs.c), and when threads were made and joined (singles.c). A thread tells of its pair
+ * again when it has made another thread; so often it tells of it at most.
  */
-#define ORDER_TELLINGS 8
-#define WORD_ORDER "order"
+#define PAIR_TELLINGS 8
+#define WORD_PAIR "pair"
 #define WORD_MANY "many"
 #define WORD_LIFE "life"
 #define WORD_JOINED "joined"

@@ -23,12 +23,12 @@ void judge_forked(void);
 void judge_ends(void);
 
 /* A line of each kind, under the mutex. */
-void judge_made(int stream, const struct thread *thread, const struct lock *lock);
-void judge_asked(int stream, const struct thread *thread, uint32_t lock, uint8_t mode, uint32_t place);
-void judge_got(int stream, const struct thread *thread, uint32_t lock);
-void judge_gave_up(int stream, const struct thread *thread, uint32_t lock);
-void judge_tried(int stream, const struct thread *thread, uint32_t lock, uint8_t mode, uint32_t place);
-void judge_released(int stream, const struct thread *thread, uint32_t lock, uint8_t mode);
+void judge_made(const struct thread *thread, const struct lock *lock);
+void judge_asked(const struct thread *thread, uint32_t lock, uint8_t mode, uint32_t place);
+void judge_got(const struct thread *thread, uint32_t lock);
+void judge_gave_up(const struct thread *thread, uint32_t lock);
+void judge_tried(const struct thread *thread, uint32_t lock, uint8_t mode, uint32_t place);
+void judge_released(const struct thread *thread, uint32_t lock, uint8_t mode);
 void judge_missed(enum missed what);
 
 /* Whether requests that wait for long are looked at: they tell of no order that isn't known. */
@@ -56,29 +56,29 @@ static inline void judge_lacks_memory(void) {}
 static inline void judge_begins(void) {}
 static inline void judge_forked(void) {}
 static inline void judge_ends(void) {}
-static inline void judge_made(int stream, const struct thread *thread, const struct lock *lock)
+static inline void judge_made(const struct thread *thread, const struct lock *lock)
 {
-    (void)stream, (void)thread, (void)lock;
+    (void)thread, (void)lock;
 }
-static inline void judge_asked(int stream, const struct thread *thread, uint32_t lock, uint8_t mode, uint32_t place)
+static inline void judge_asked(const struct thread *thread, uint32_t lock, uint8_t mode, uint32_t place)
 {
-    (void)stream, (void)thread, (void)lock, (void)mode, (void)place;
+    (void)thread, (void)lock, (void)mode, (void)place;
 }
-static inline void judge_got(int stream, const struct thread *thread, uint32_t lock)
+static inline void judge_got(const struct thread *thread, uint32_t lock)
 {
-    (void)stream, (void)thread, (void)lock;
+    (void)thread, (void)lock;
 }
-static inline void judge_gave_up(int stream, const struct thread *thread, uint32_t lock)
+static inline void judge_gave_up(const struct thread *thread, uint32_t lock)
 {
-    (void)stream, (void)thread, (void)lock;
+    (void)thread, (void)lock;
 }
-static inline void judge_tried(int stream, const struct thread *thread, uint32_t lock, uint8_t mode, uint32_t place)
+static inline void judge_tried(const struct thread *thread, uint32_t lock, uint8_t mode, uint32_t place)
 {
-    (void)stream, (void)thread, (void)lock, (void)mode, (void)place;
+    (void)thread, (void)lock, (void)mode, (void)place;
 }
-static inline void judge_released(int stream, const struct thread *thread, uint32_t lock, uint8_t mode)
+static inline void judge_released(const struct thread *thread, uint32_t lock, uint8_t mode)
 {
-    (void)stream, (void)thread, (void)lock, (void)mode;
+    (void)thread, (void)lock, (void)mode;
 }
 static inline void judge_missed(enum missed what) { (void)what; }
 static inline bool judge_watches_waits(void) { return false; }

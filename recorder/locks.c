@@ -242,13 +242,6 @@ static bool is_free(const struct lock *lock)
     return lock->type->class == MUTEX && mutex->__data.__lock == 0;
 }
 
-/* The child's tree of chains is empty. */
-void locks_forked(void)
-{
-    for (uint32_t i = 1; i <= types_met; i++)
-        atomic_store(&types[i].root, 0);
-}
-
 /* The record is no longer that of its lock: who holds it by its chain has lost it. */
 static void forget(struct lock *lock, bool nobody_holds)
 {
@@ -297,13 +290,13 @@ static struct lock *add(const void *address, const struct type *wanted, int kind
     struct type *type = type_of(wanted);
     struct lock *lock = free_locks ? free_locks : lock_numbered(locks_taken);
     if (!type || !lock) {
-        count_missed_all(type ? MISSED_LOCKS : MISSED_TYPES);
+        count_missed(type ? MISSED_LOCKS : MISSED_TYPES);
         return NULL;
     }
     take_kind(lock, wanted->class, kind);
     lock->name = name_for(type, (uintptr_t)address, lock);
     if (!lock->name) {
-        count_missed_all(MISSED_LOCKS);
+        count_missed(MISSED_LOCKS);
         return NULL;
     }
     if (lock == free_locks)
@@ -312,6 +305,8 @@ static struct lock *add(const void *address, const struct type *wanted, int kind
         locks_taken++;
     lock->type = type;
     lock->serial = ++serials;
+    if (UNLIKELY(lock->serial == SERIAL_MOST))
+        single_pairs_end();
     atomic_store(&lock->left_alone, false);
     memset(&lock->marks, 0, sizeof lock->marks);
     _Atomic(struct lock *) *bucket = lock_bucket((uintptr_t)address);

@@ -12,7 +12,7 @@
  * address, and from then on the callers are read from the stack. Where neither is so, or the frame pointer isn't
  * known, the unwinder is asked each time: no other address is ever read.
  */
-#include "recorder.h"
+#include "steer.h"
 
 #include <stdlib.h>
 #include <string.h>
@@ -246,6 +246,8 @@ static void add(uintptr_t pc, int32_t step, bool leaves_base)
     place->object = (uint16_t)object;
     if (place->object)
         look_up(place, pc);
+    if (UNLIKELY(steers))
+        steer_place(place);
     places_met++;
     atomic_store_explicit(&place->pc, pc, memory_order_release);
 }
@@ -263,6 +265,8 @@ uint32_t place_named(uintptr_t pc, const char *file, unsigned line, const char *
     place->name = function;
     place->offset = line;
     place->file = file;
+    if (UNLIKELY(steers))
+        steer_place(place);
     places_met++;
     atomic_store_explicit(&place->pc, pc, memory_order_release);
     return slot + 1;
@@ -436,6 +440,8 @@ COLD static uint32_t pair_made(uint32_t library, uint32_t rest)
         place->detour = frames_shown > 1 ? DETOUR_STACKS : DETOUR_NONE;
         place->library = library;
         place->rest = rest;
+        if (UNLIKELY(steers))
+            steer_place(place);
         places_met++;
         atomic_store_explicit(&place->pc, pc, memory_order_release);
         number = slot + 1;

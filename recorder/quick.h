@@ -5,63 +5,34 @@
 #ifndef QUICK_H
 #define QUICK_H
 
+#include "condensed.h"
 #include "recorder.h"
 
-struct node {
-    _Atomic uint64_t key; /* parent and type; 0 where there is no node */
-    _Atomic uint32_t requested; /* bits of these */
-    uint32_t orders;      /* how many orders of single locks are kept */
-};
-/* HALF_REQUESTED: as requested, but a lock of the chain had no number. MANY_ORDERS: no more orders are kept. */
-enum { REQUESTED = 1, HALF_REQUESTED = 2, MANY_ORDERS = 4 };
+#include <string.h>
 
-/* The chain that no node stands for, since the tree is full. What is asked for behind it is always new. */
-#define NODE_UNKNOWN UINT32_MAX
-
-extern __attribute__((visibility("hidden"))) struct node *nodes;
-
-static inline uint64_t node_key(uint32_t parent, uint32_t type)
+/* The type's number in the stream; 0 where it has none yet, NUMBER_NONE where there was no room. Without the mutex. */
+static inline uint32_t type_number(const struct type *type)
 {
-    return (uint64_t)parent << 32 | type;
+    return LIKELY(atomic_load_explicit(&type->marks.life, memory_order_acquire) == life)
+        ? *(const volatile uint32_t *)&type->marks.number
+        : 0;
 }
 
-static inline uint32_t node_slot(uint64_t key)
-{
-    return (uint32_t)((key * 0x9e3779b97f4a7c15u) >> 40) % NODES;
-}
+extern __attribute__((visibility("hidden"))) struct wit_condensed *pairs; /* that the stream tells of */
 
-/* The node of a chain and a type behind it, 0 where there is none yet. */
-static inline uint32_t node_of(uint32_t parent, uint32_t type)
+/* Whether the stream tells of each pair of types that a request for that type makes. What has no room there makes none. */
+static inline bool chain_is_told(const struct thread *thread, const struct type *type)
 {
-    uint64_t key = node_key(parent, type);
-    if (UNLIKELY(parent == NODE_UNKNOWN))
-        return NODE_UNKNOWN;
-    for (uint32_t slot = node_slot(key);; slot = (slot + 1) % NODES) {
-        uint64_t found = atomic_load_explicit(&nodes[slot].key, memory_order_acquire);
-        if (LIKELY(found == key))
-            return slot + 1;
-        if (found == 0)
-            return 0;
+    uint32_t asked = type_number(type);
+    if (asked == NUMBER_NONE)
+        return true;
+    const uint64_t *row = thread->count == 1 ? pairs->alone[asked] : pairs->told[asked];
+    for (uint32_t i = 0; i < thread->count; i++) {
+        uint32_t held = type_number(thread->held[i].lock->type);
+        if (held != NUMBER_NONE && !wit_has_bit(row, (uint16_t)held))
+            return false;
     }
-}
-
-/* Whether it stands for a chain: it was looked for, and the tree had room. */
-static inline bool node_is_there(uint32_t node)
-{
-    return node - 1 < NODES;
-}
-
-static inline bool node_is_requested(uint32_t node)
-{
-    return node_is_there(node)
-        && (atomic_load_explicit(&nodes[node - 1].requested, memory_order_acquire) & REQUESTED);
-}
-
-static inline bool node_is_half_requested(uint32_t node)
-{
-    return node_is_there(node)
-        && (atomic_load_explicit(&nodes[node - 1].requested, memory_order_acquire) & (HALF_REQUESTED | REQUESTED))
-            == HALF_REQUESTED;
+    return true;
 }
 
 static inline struct held *held_of(struct thread *thread, const struct lock *lock)
@@ -71,18 +42,6 @@ static inline struct held *held_of(struct thread *thread, const struct lock *loc
             return &thread->held[i];
     return NULL;
 }
-
-/*
- * The orders of single locks that stand in the stream: a chain of locks, with the one that was asked for last, and the
- * thread. THREADS: a second thread has asked so, too; then it isn't told of others.
- */
-struct order {
-    _Atomic uint64_t locks;
-    _Atomic uint32_t thread;
-};
-enum { ORDERS = 1 << 16, ORDER_TRIES = 4, ORDERS_ROOM = ORDERS + ORDER_TRIES - 1, THREADS = UINT32_MAX };
-
-extern __attribute__((visibility("hidden"))) struct order *single_orders;
 
 /* What stands for a chain and a lock of that mode after it. */
 static inline uint64_t locks_with(uint64_t chain, const struct lock *lock, enum mode mode)
@@ -97,34 +56,33 @@ static inline uint64_t locks_held(const struct thread *thread)
     return thread->count ? thread->held[thread->count - 1].locks : 0;
 }
 
-/* The first of the ORDER_TRIES slots that the order may stand in. */
-static inline struct order *order_first(uint64_t locks)
+/*
+ * Whether the thread has asked so before, and nothing of it was new, by what stands for its locks. So it stays then: the pairs
+ * of types that are told only grow in number, and so does what is told of single locks.
+ */
+static inline bool is_remembered(const struct thread *thread, uint64_t locks)
 {
-    return &single_orders[locks >> 48];
+    return LIKELY(thread->known[locks % KNOWN] == locks) || thread->known_after[thread->count % KNOWN] == locks;
 }
 
-static inline bool order_is_known(uint64_t locks, uint32_t thread)
+static inline void remember(struct thread *thread, uint64_t locks)
 {
-    const struct order *order = order_first(locks);
-    for (const struct order *end = order + ORDER_TRIES; order < end; order++) {
-        if (LIKELY(atomic_load_explicit(&order->locks, memory_order_relaxed) == locks)) {
-            uint32_t known = atomic_load_explicit(&order->thread, memory_order_relaxed);
-            return LIKELY(known == thread || known == THREADS);
-        }
-    }
-    return false;
+    thread->known[locks % KNOWN] = thread->known_after[thread->count % KNOWN] = locks;
 }
 
-/* Puts the lock there, as acquired once; `lost` is left. Nested: the one before it in its chain stands before it. */
-static inline void held_fill(struct held *held, bool nested, struct lock *lock, uint32_t place, uint32_t node,
-    uint64_t locks, enum mode mode)
+static inline void forget_requests(struct thread *thread)
+{
+    memset(thread->known, 0, sizeof thread->known);
+    memset(thread->known_after, 0, sizeof thread->known_after);
+}
+
+/* Puts the lock there, as acquired once; `lost` is left. */
+static inline void held_fill(struct held *held, struct lock *lock, uint32_t place, uint64_t locks, enum mode mode)
 {
     held->lock = lock;
     held->locks = locks;
-    held->type = lock->type->number;
     held->place = place;
-    held->node = node;
-    held->how = HOW_ONCE(mode) | (nested ? held[-1].how & HOW_AFTER_TRY : 0);
+    held->how = HOW_ONCE(mode);
 }
 
 /*
@@ -157,32 +115,6 @@ struct quick {
     bool nested;       /* the thread holds locks */
 };
 
-/* Whether one of the locks before that place is the lock. */
-QUICK bool quick_is_held(const struct thread *thread, const struct held *held, const struct lock *lock)
-{
-    while (held != thread->held)
-        if (UNLIKELY((--held)->lock == lock))
-            return true;
-    return false;
-}
-
-/* The node of a request by a thread that holds locks; 0 where the request may tell something new. */
-QUICK uint32_t quick_node(const struct thread *thread, const struct held *held, const struct lock *lock, uint64_t locks)
-{
-    uint32_t parent = held[-1].node;
-    if (UNLIKELY(parent == 0 || parent == NODE_UNKNOWN || quick_is_held(thread, held, lock)))
-        return 0;
-    uint32_t node = node_of(parent, lock->type->number);
-    if (UNLIKELY(node == 0))
-        return 0;
-    uint32_t requested = atomic_load_explicit(&nodes[node - 1].requested, memory_order_acquire);
-    /* These very locks were asked for so, or so many that no more are kept. */
-    return LIKELY(requested & REQUESTED)
-            && ((requested & MANY_ORDERS) || LIKELY(order_is_known(locks, thread->serial)))
-        ? node
-        : 0;
-}
-
 /* False where the call takes the long way. Else the thread is inside the recorder until the request ends. */
 QUICK bool quick_begins(struct quick *quick, uintptr_t stack)
 {
@@ -190,24 +122,25 @@ QUICK bool quick_begins(struct quick *quick, uintptr_t stack)
     return LIKELY(!takes_long_way()) && LIKELY(goes_inside(quick->thread, stack));
 }
 
-/* Whether a request from that place tells nothing new. Then its lock is put after the chain. */
+/*
+ * Whether a request from that place tells nothing new. Then its lock is put after the chain. What is remembered wasn't for a
+ * lock that the thread holds: that would stand in the chain.
+ */
 QUICK bool quick_is_known(struct quick *quick, const void *address, enum mode mode, uint32_t place)
 {
     struct thread *thread = quick->thread;
     struct lock *lock = lock_at(address);
     if (UNLIKELY(!lock))
         return false;
-    uint32_t count = thread->count, node;
+    uint32_t count = thread->count;
     if (UNLIKELY(count == thread->room))
         return false;
     struct held *held = quick->held = &thread->held[count];
     quick->nested = count != 0;
     uint64_t locks = locks_with(quick->nested ? held[-1].locks : 0, lock, mode);
-    if (!quick->nested)
-        node = atomic_load_explicit(&lock->type->root, memory_order_relaxed);
-    else if (UNLIKELY(!(node = quick_node(thread, held, lock, locks))))
+    if (quick->nested && UNLIKELY(!is_remembered(thread, locks)) && !request_is_known(thread, lock, mode, locks))
         return false;
-    held_fill(held, quick->nested, lock, place, node, locks, mode);
+    held_fill(held, lock, place, locks, mode);
     return true;
 }
 
@@ -237,7 +170,7 @@ QUICK bool quick_released(const void *address, uintptr_t stack)
         return false;
     const struct held *held = &thread->held[thread->count - 1];
     if (LIKELY(atomic_load_explicit(&held->lock->address, memory_order_relaxed) == (uintptr_t)address
-            && held->count == 1 && !held->written && thread->room == HELD_FEW)) {
+            && held->count == 1 && !held->written && (thread->room == HELD_FEW || thread->count > 1))) {
         thread->count--;
         released = true;
     }

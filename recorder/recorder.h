@@ -5,15 +5,17 @@
  *   calls.c     the interposed calls of pthread, C11 and the C library; ways.h, what they share
  *   others.c    those of GLib and OpenMP, where the program has them; rebind.c puts them there
  *   repeats.c   requests with a time limit that are made again and again
- *   singles.c   the orders of single locks
+ *   single_pairs.c  the pairs of single locks; single_pairs.h, what is read of them without the mutex; single_lines.c, their
+ *               lines; singles.c, when threads began and were joined
  *   errors.c    errors in the use of locks that aren't orders
  *   annotations.c  what a program tells of its own locks by witness.h
  *   semaphores.c  the semaphores that are locks
  *   threads.c   who made each thread
  *   programs.c  the programs that a process starts; libraries.c, the libraries that it opens
  *   asked.c     which mutexes are held, where `record --show` asks
+ *   steer.c     where a steered run pauses; steer.h, and plan.h, what is planned
  *   start.c     the real functions behind them, the start, fork
- *   chains.c    what each thread holds, and the tree of chains of types; quick.h, where nothing is to be written
+ *   chains.c    what each thread holds; quick.h, where nothing is to be written
  *   waiters.c   threads that wait for a condition while they hold locks
  *   locks.c     the locks at their addresses, and their types
  *   blocks.c    the blocks of memory that they are in, where that is asked for; malloc/, its interposed calls
@@ -21,10 +23,10 @@
  *   places.c    the callers of a call; objects.c finds their object, elf_symbols.c its symbols; sites.c, places by name
  *   stacks.c    the callers of what is written
  *   seats.c     seats, and the numbers of types, locks and places in a stream
- *   pairs.c     the pairs of types that the condensed stream tells of
+ *   condensed.h which requests a stream needs, by the pairs of types that it tells of
  *   write.c     the lines, and why they are a legal history
  *   words.c     words of others, which may have any bytes
- *   stream.c    the files that the lines stand in
+ *   stream.c    the file that the lines stand in
  *   pinned.c    mlockall, and which memory is the recorder's
  *   reach.c     memory that may not be there
  *   status.c    which programs were started, what failed and which objects were loaded, where it outlives the process
@@ -59,24 +61,28 @@
 #define UNLIKELY(condition) __builtin_expect(!!(condition), 0)
 #define COLD __attribute__((cold, noinline))
 
-/* A stream is one file of lines. A run writes the condensed one, the full one or, to compare them, both. */
-enum { CONDENSED, FULL, STREAMS };
+/* A stream is the file of a process's lines. A build for tests writes each request, and marks those that need no line. */
+#ifdef WRITE_ALL
+enum { WRITES_ALL = true };
+#else
+enum { WRITES_ALL = false };
+#endif
 
 /* The limits of a trace; the recorder has no use for chunks. */
 enum { SEATS = 256, TYPES = 1023, LOCKS = 65536 };
 #define LOG_LIMIT 16777216u
 
-/* The recorder's own limits: locks alive, types met, places, nodes of the tree of chains, locks that a thread holds. */
+/* The recorder's own limits: locks alive, types met, places, locks that a thread holds. */
 #define LOCKS_ALIVE (1u << 20)
 #define TYPES_MET (1u << 16)
 #define PLACES (1u << 16)
-#define NODES (1u << 18)
 #define HELD_MOST 512u
 #define HELD_FEW 8u
+#define KNOWN 32u /* requests that a thread remembers as known */
 #define DEPTH_MOST 4u
 #define FRAMES_MOST 16u
 #define SERIAL_BITS 28
-#define ORDER_LONGEST 24u /* locks of an order of single ones; of a longer chain it isn't told */
+#define SERIAL_MOST ((1u << SERIAL_BITS) - 1)
 
 /*
  * TOLD_RWLOCK: one that the program tells of (annotations.c), whose memory is never read. The last two are made for several
@@ -85,11 +91,13 @@ enum { SEATS = 256, TYPES = 1023, LOCKS = 65536 };
 enum class { MUTEX, RWLOCK, SPIN, SEMAPHORE, TOLD_RWLOCK, SHARED_SPIN, SHARED_SEMAPHORE };
 enum mode { SHARED, EXCLUSIVE };
 
-/* The number of a thing in each stream, 0 before it has one. A forked child begins a life with none. */
+/* The number of a thing in the stream, 0 before it has one. A forked child begins a life with none. */
 struct marks {
-    uint32_t life;
-    uint32_t number[STREAMS];
+    _Atomic uint32_t life; /* set after the number of an earlier one is gone */
+    uint32_t number;
 };
+/* The number of what didn't fit; it was counted. */
+#define NUMBER_NONE UINT32_MAX
 
 /*
  * Where a call comes from: its return address, or what stands for one of a place by name (sites.c); and the stack pointer
@@ -123,10 +131,11 @@ enum { STEP_LAST = 0, STEP_VARIES = -1, STEP_FRAME = -2 };
 #define PC_CLOSED ((uintptr_t)1)
 /*
  * DETOUR_WRAPPER: the function's only work is to lock. DETOUR_LIBRARY: it is of the C++ library, and may have a function
- * of the program in it. Else so many acquisitions more are to have their stacks:
+ * of the program in it. DETOUR_PLANNED: a steered run may pause there (steer.c). Else so many acquisitions more are to have
+ * their stacks:
  * DETOUR_STACKS from when the place is met, or one of them was new (stacks.c).
  */
-enum { DETOUR_NONE = 0, DETOUR_STACKS = 16, DETOUR_LIBRARY = 254, DETOUR_WRAPPER = 255 };
+enum { DETOUR_NONE = 0, DETOUR_STACKS = 16, DETOUR_PLANNED = 253, DETOUR_LIBRARY = 254, DETOUR_WRAPPER = 255 };
 
 struct type {
     uint32_t number;
@@ -141,14 +150,13 @@ struct type {
     uint32_t uses[DEPTH_MOST]; /* of a first use, where `places` are those that take the block; else 0 */
     bool crowded;      /* there were too many such offsets: the type counts as one without them */
     struct type *next; /* in its bucket */
-    _Atomic uint32_t root; /* the node of a chain of this type alone; 0 where it wasn't looked for */
     struct marks marks;
     uint32_t names_made;
     struct name *first_free, *last_free; /* names of locks that are gone, the longest gone first */
 };
 
 /*
- * The name that a lock has among those of its type, and its number in each stream. When the lock is gone, both go to
+ * The name that a lock has among those of its type, and its number in the stream. When the lock is gone, both go to
  * the next one of the same name.
  */
 struct name {
@@ -178,35 +186,30 @@ struct lock {
 struct held {
     struct lock *lock;
     uint64_t locks;   /* stands for the single locks of the chain up to this one, and their modes */
-    uint32_t type;
     uint32_t lost;    /* the lock's count when it was acquired */
+    uint32_t place;
     union {
         struct {
             uint32_t count; /* acquisitions not yet released */
             uint8_t mode : 3;
             uint8_t has_under : 1;   /* `under` is a lock's: that one was held when this was acquired, and released first */
-            uint8_t moved : 1;       /* what was held just before it when it was asked for was released */
             uint8_t tried : 1;
-            uint8_t after_try : 1;   /* an order between what is held up to it may not be known */
             uint8_t before_fork : 1; /* it was acquired by the parent process */
-            uint8_t written;  /* a bit for each stream */
+            uint8_t written;  /* bits of the two below */
             uint16_t stack;   /* of the acquisition; 0 where it has none */
         };
         uint64_t how; /* all of these: they are read at once, and what was written in parts can't be without a wait */
     };
-    uint32_t place;
-    uint32_t number[STREAMS];
-    uint32_t node;    /* of the chain up to this lock; 0 where it wasn't looked for */
+    uint32_t number;
     uint32_t under;   /* the serial number of the lock that was released last before it */
 };
-/* What `how` is of a lock that was acquired once, in that mode, and isn't written; and its bit `after_try`. */
+/* What `how` is of a lock that was acquired once, in that mode, and isn't written. */
 #define HOW_ONCE(mode) ((uint64_t)(mode) << 32 | 1)
-#define HOW_AFTER_TRY ((uint64_t)1 << 38)
 /*
- * A bit of `written` beside those of the streams: since the lock was acquired, a request with a time limit has ended without
- * its lock (repeats.c). What is released quickly isn't written, so such a lock isn't.
+ * IS_WRITTEN: the stream has it held. KEPT_ON: since the lock was acquired, a request with a time limit has ended without its lock
+ * (repeats.c). What is released quickly isn't written, so such a lock isn't.
  */
-#define KEPT_ON (1u << STREAMS)
+enum { IS_WRITTEN = 1, KEPT_ON = 2 };
 
 /* The request with a time limit that a thread made last and that ended without its lock (repeats.c). */
 struct repeated {
@@ -230,11 +233,11 @@ struct thread {
     uint32_t lost_seen;
     uint32_t unseen;  /* acquisitions that the chain had no room for */
     struct held *held;
-    uint32_t seat[STREAMS];      /* 0 for none */
-    uint32_t last_seat[STREAMS];
-    uint32_t written[STREAMS];   /* locks in the chain, and requests, that stand in the stream */
-    uint32_t asked[STREAMS];     /* the number of the lock whose request is pending there, 0 for none */
-    bool asks_for_a_time;        /* the request that was written last ends by itself */
+    uint32_t seat;    /* 0 for none */
+    uint32_t last_seat;
+    uint32_t written; /* locks in the chain, and requests, that stand in the stream */
+    uint32_t asked;   /* the number of the lock whose request is pending there, 0 for none */
+    bool asks_for_a_time; /* the request that was written last ends by itself */
     struct held few[HELD_FEW];
     uintptr_t own_stack; /* where the stack of the recorder's own begins that it is on; 0 for none (aside.c) */
     bool keeps_signals;  /* no handler runs on that one */
@@ -246,9 +249,11 @@ struct thread {
     uint32_t maker;   /* the thread that made it, as the kernel counts; 0 of the first one, or where that isn't known */
     uint32_t made_at; /* how many threads had been made and joined before */
     uint32_t grand, maker_at; /* the same of its maker: who made that one, and when */
-    bool has_orders;  /* that stand in a stream */
+    bool has_pairs;  /* that stand in a stream */
     struct repeated repeated;
     struct waiter *waiter, *last_waiter; /* where it waits for a condition, NULL else; and where it did last (waiters.c) */
+    uint64_t known[KNOWN];  /* requests that tell nothing new, each by what stands for its locks (quick.h) */
+    uint64_t known_after[KNOWN]; /* and the last one after each number of locks, up to KNOWN */
 };
 
 /* A request from its check to its end. */
@@ -259,8 +264,6 @@ struct request {
     struct caller caller;
     uint32_t place;
     uint32_t stack;     /* 0 where it has none */
-    uint32_t parent;    /* the node of what is held */
-    uint32_t node;      /* of the chain with the lock; 0 where it wasn't looked for */
     uint8_t mode;
     bool tried, timed;
     bool repeats;       /* it has a time limit, and counts as one without (repeats.c) */
@@ -268,15 +271,15 @@ struct request {
     bool patient;       /* not written though it may block: to be written after a second */
     bool again_refused; /* the thread holds the lock, and it isn't one to be acquired again */
     bool waited_for_itself; /* that was written */
-    uint8_t pending;    /* a bit for each stream */
-    uint32_t number[STREAMS];
+    bool pending;       /* the stream has it */
+    uint32_t number;
 };
 
-/* What didn't fit, or can't be written: counted in the first line of each stream. */
+/* What didn't fit, or can't be written: counted in the first line of the stream. */
 #define NUMBER_OF(number, name) number,
 enum missed { EACH_MISSED(NUMBER_OF) MISSES };
 
-/* What failed outside the streams. */
+/* What failed outside the stream. */
 enum failure { EACH_FAILURE(NUMBER_OF) FAILURES };
 
 /* Errors in the use of locks: what was done to a held one, or without it. */
@@ -357,8 +360,6 @@ struct real {
     ((struct caller){(uintptr_t)__builtin_return_address(0), HERE, *(const uintptr_t *)__builtin_frame_address(0)})
 extern struct real real;
 extern __thread struct thread self __attribute__((tls_model("initial-exec")));
-extern bool writes[STREAMS];
-extern bool writes_all; /* a line for every call: the full stream is written */
 extern bool all_slow;   /* every call takes the long way */
 /* The first page of the stream, as long as not every call takes the long way in any case. */
 enum { PAGE_BYTES = 4096 };
@@ -419,8 +420,6 @@ void request_waits(struct request *request);
 void release_begins(const void *address, struct caller caller);
 bool wait_begins(struct request *request, const void *address, bool asks_again, struct caller caller);
 void wait_ends(struct request *request, int answer);
-void node_set_requested(uint32_t node, bool whole); /* whole: the stream has all of the chain */
-uint32_t node_made(uint32_t parent, uint32_t type);
 void chains_forked(void);
 
 /* waiters.c */
@@ -435,6 +434,8 @@ void waiters_written(void);
 long thread_number(const struct thread *thread);
 void thread_name(const struct thread *thread, char name[THREAD_NAME_ROOM]);
 void waiters_forked(void);
+/* Calls the function with the request of each that was written so. Under the mutex. */
+void waiters_each(void (*function)(const struct request *request));
 
 /* locks.c */
 /* The bit by which the handle of a lock that may move is told from an address (annotations.c). */
@@ -462,7 +463,6 @@ static inline struct lock *lock_at(const void *address)
 }
 
 struct lock *lock_met(const void *address, enum class class, struct caller caller);
-void locks_forked(void);
 void lock_made(const void *address, enum class class, struct caller caller);
 void lock_made_as(const void *address, enum class class, struct caller caller, const char *type);
 void lock_gone(const void *address);
@@ -592,11 +592,12 @@ extern bool stacks_all;       /* what is held has its stack, too */
 bool stacks_made(void);
 uint32_t stack_of(struct caller caller);
 uint32_t stack_of_held(uint32_t place, struct caller caller);
-void stack_stands(int stream, uint32_t number);
+void stack_stands(uint32_t number);
 
 /* asked.c */
 bool mutex_read(uintptr_t address, pthread_mutex_t *mutex); /* false where its memory is gone */
 int32_t mutex_holder(uintptr_t address);
+int32_t rwlock_writer(uintptr_t address);
 void answer(struct thread *thread);
 
 /* annotations.c */
@@ -617,11 +618,23 @@ bool repeat_counts(struct request *request);
 void repeat_noted(const struct request *request); /* it ended without its lock */
 void repeat_ends(struct thread *thread);
 
+/* single_pairs.c */
+bool single_pairs_made(void);
+void single_pairs_forked(void);
+void single_pairs_end(void); /* no further pairs are told of; under the mutex, between lines */
+void pairs_noted(struct request *request); /* before the real call, of a thread that holds something */
+/* Whether a request tells nothing new that has no time limit; if so, it may be remembered by what stands for its locks. */
+bool request_is_known(struct thread *thread, const struct lock *lock, enum mode mode, uint64_t locks);
+
+/* single_lines.c; under the mutex */
+struct single_pair;
+/* What is kept of the pair of what the request's thread holds there and of what it asks for. AGAIN: it was told of before. */
+void write_pair(const struct request *request, const struct held *held, const struct single_pair *pair, bool again);
+void write_no_more_pairs(void);
+
 /* singles.c */
-bool singles_made(void);
 void singles_forked(void);
-void order_noted(struct request *request); /* before the real call, of a thread that holds something */
-bool order_is_under(const struct held *held, const struct request *request);
+void life_begins(struct thread *thread); /* under the mutex; it is told of once */
 /* What is known of a thread before it is joined: its handle, and by what it is told from a later one of that handle. */
 struct joining {
     pthread_t thread;
@@ -641,49 +654,42 @@ void error_of_reread(struct request *request); /* of a rwlock that this thread r
 void error_of_wait(const pthread_mutex_t *mutex, struct caller caller); /* where this thread isn't known to hold it */
 
 /* seats.c */
-bool seat_taken(int stream, struct thread *thread);
-void seat_given_back(int stream, struct thread *thread);
-uint32_t lock_number(int stream, struct thread *thread, struct lock *lock);
-uint32_t lock_number_for_order(int stream, struct thread *thread, struct lock *lock);
-bool type_fits(int stream, struct type *type);
-void number_stands(int stream, uint32_t number);
-void number_stands_no_more(int stream, uint32_t number);
+bool seat_taken(struct thread *thread);
+bool seat_found(struct thread *thread); /* as seat_taken, where it needn't have one: nothing is counted */
+void seat_given_back(struct thread *thread);
+uint32_t lock_number(struct thread *thread, struct lock *lock);
+uint32_t lock_number_for_pair(struct thread *thread, struct lock *lock);
+uint32_t type_number_for_pair(struct type *type); /* 0 where there is no room for it */
+bool type_fits(struct type *type);
+void number_stands(uint32_t number);
+void number_stands_no_more(uint32_t number);
 /* Whether the stream has the lock held or asked for, but for an own acquisition. */
-bool number_has_others(int stream, struct lock *lock, uint32_t own);
-uint32_t place_number(int stream, uint32_t place);
-uint32_t *mark(struct marks *marks, int stream);
+bool number_has_others(struct lock *lock, uint32_t own);
+uint32_t place_number(uint32_t place);
+uint32_t *mark(struct marks *marks);
 void seats_forked(void);
-
-/* pairs.c */
-void pairs_written(const struct thread *thread, struct type *type);
-bool pairs_are_written(const struct thread *thread, struct type *type);
-void pairs_forked(void);
 
 /* write.c */
 void write_request(struct request *request);
 void write_request_of(struct request *request); /* of a thread that waits for a condition; under the mutex */
 void write_acquired(struct request *request, struct held *held);
-void write_again(struct request *request, struct held *held);
 void write_given_up(struct request *request);
 void write_left(struct thread *thread);
-void write_unlock(struct thread *thread, struct held *held, bool whole);
+void write_unlock(struct thread *thread, struct held *held);
 void write_waits_for_itself(struct request *request);
 void write_goes_on(const struct request *request);
+void write_owner(const struct thread *thread, uint32_t lock, int32_t owner); /* under the mutex */
 void write_waits_behind(struct request *request);
-void write_waits_behind_no_more(struct request *request);
 void write_released_by_another(struct thread *thread, struct lock *lock, uint32_t place);
 void write_error(struct thread *thread, enum lock_error error, struct lock *lock, uint32_t place); /* inside */
-enum order_line { ORDER_NEW, ORDER_AGAIN, ORDER_NOT_KEPT };
-void write_order(struct request *request, enum order_line line); /* inside, as the next three */
-void write_no_more_orders(void);
-void write_life(struct thread *thread);
+void write_life(struct thread *thread); /* inside, as the next one */
 void write_joined(uint32_t joined, uint32_t at);
-bool stream_has_room(int stream);
-void write_thread(int stream, const struct thread *thread);
-void write_place(int stream, uint32_t place);
-void write_type(int stream, struct type *type);
+bool stream_has_room(void);
+void write_thread(const struct thread *thread);
+void write_place(uint32_t place);
+void write_type(struct type *type);
 void write_crowded(struct type *type); /* under the mutex, between lines */
-void write_init(int stream, struct thread *thread, struct lock *lock);
+void write_init(struct thread *thread, struct lock *lock);
 
 /* words.c */
 /*
@@ -693,22 +699,22 @@ void write_init(int stream, struct thread *thread, struct lock *lock);
 size_t word_escaped(const char *word, char *to, size_t room);
 
 /* stream.c */
-void put_text(int stream, const char *text);
-void put_number(int stream, uint64_t number);      /* behind a space, as the next two */
-void put_hexadecimal(int stream, uint64_t number);
-void put_word(int stream, const char *word); /* as words.c has it; NO_NAME for an empty one */
-void stream_append(int stream, bool is_entry);
-bool stream_opens(int stream);
-bool stream_is_asked(int stream);
-void stream_is_answered(int stream);
-bool streams_have_files(void); /* else their lines are judged alone */
-uint32_t stream_entries(int stream);
-void count_missed(int stream, enum missed what);
-void count_missed_all(enum missed what);
+void put_text(const char *text);
+void put_number(uint64_t number);      /* behind a space, as the next two */
+void put_hexadecimal(uint64_t number);
+void put_word(const char *word); /* as words.c has it; NO_NAME for an empty one */
+void stream_append(bool is_entry);
+bool stream_opens(void);
+uint64_t stream_time(void); /* in milliseconds since the process, or the fork, began */
+bool stream_is_asked(void);
+void stream_is_answered(void);
+bool stream_has_file(void); /* else their lines are judged alone */
+uint32_t stream_entries(void);
+void count_missed(enum missed what);
 void count_missed_outside(enum missed what);
-bool streams_made(void);
-void streams_forked(void);
-void streams_end(void);
+bool stream_made(void);
+void stream_forked(void);
+void stream_end(void);
 
 /* pinned.c */
 void own_memory(const void *from, size_t bytes); /* that is the recorder's, and not the program's */

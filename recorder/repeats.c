@@ -47,9 +47,9 @@ bool repeat_counts(struct request *request)
     repeated->times += !repeated->lingers;
     request->timed = false;
     request->repeats = true;
-    for (int stream = 0; repeated->lingers && stream < STREAMS; stream++) {
-        request->number[stream] = request->thread->asked[stream];
-        request->pending |= (uint8_t)((request->number[stream] != 0) << stream);
+    if (repeated->lingers) {
+        request->number = request->thread->asked;
+        request->pending = request->number != 0;
     }
     return true;
 }

@@ -1,159 +1,193 @@
 /*
  * Seats, and the numbers that types, locks and places have in a stream. All of it is under the mutex.
  *
- * A seat is lent to a thread while the stream has something that the thread holds or asks for: a seat with nothing
- * held and nothing pending is as good as new. So a thread that ends has nothing to give back, and the seats of a trace
- * are those that were busy at once. The number of a lock that is gone is used again for a lock of the same name.
+ * A thread has a seat of its own, which nobody else gets as long as there are seats that none has had: then the seats of a
+ * trace are its threads. After that a seat is lent to a thread while the stream has something that the thread holds or asks
+ * for, and the line `lent` says that this has begun. A seat with nothing held and nothing pending is as good as new, so a
+ * thread that ends has nothing to give back. The number of a lock that is gone is used again for a lock of the same name.
  */
 #include "recorder.h"
 
 #include <string.h>
 
-/* The number of what didn't fit; it was counted. */
-#define NUMBER_NONE UINT32_MAX
-
 /* Who had each seat last, and is named for it. */
-static const struct thread *sitters[STREAMS][SEATS + 1];
-static uint64_t seats_lent[STREAMS][SEATS / 64];
-static uint32_t types_numbered[STREAMS];
-static uint32_t locks_numbered[STREAMS];
+static const struct thread *sitters[SEATS + 1];
+static uint64_t seats_lent[SEATS / 64];
+static uint32_t seats_begun; /* that a thread has had */
+static bool are_lent;        /* there were more threads than seats */
+static uint32_t types_numbered;
+static uint32_t locks_numbered;
 /* Of each lock's number, acquisitions written and not yet unlocked, and requests pending. */
-static uint32_t holders[STREAMS][LOCKS + 1];
+static uint32_t holders[LOCKS + 1];
 
-uint32_t *mark(struct marks *marks, int stream)
+uint32_t *mark(struct marks *marks)
 {
-    if (marks->life != life)
-        *marks = (struct marks){.life = life};
-    return &marks->number[stream];
-}
-
-static bool is_lent(int stream, uint32_t seat)
-{
-    return seats_lent[stream][(seat - 1) / 64] >> (seat - 1) % 64 & 1;
-}
-
-bool seat_taken(int stream, struct thread *thread)
-{
-    uint32_t seat = thread->last_seat[stream];
-    if (thread->seat[stream])
-        return true;
-    if (seat == 0 || is_lent(stream, seat))
-        for (seat = 1; seat <= SEATS && is_lent(stream, seat); seat++)
-            ;
-    if (seat > SEATS) {
-        count_missed(stream, MISSED_SEATS);
-        return false;
+    if (marks->life != life) {
+        marks->number = 0;
+        atomic_store_explicit(&marks->life, life, memory_order_release);
     }
-    seats_lent[stream][(seat - 1) / 64] |= (uint64_t)1 << (seat - 1) % 64;
-    bool is_named = sitters[stream][seat] == thread && thread->last_seat[stream] == seat;
-    thread->seat[stream] = thread->last_seat[stream] = seat;
-    sitters[stream][seat] = thread;
+    return &marks->number;
+}
+
+static bool is_lent(uint32_t seat)
+{
+    return seats_lent[(seat - 1) / 64] >> (seat - 1) % 64 & 1;
+}
+
+/* `lent`: from here on a seat may be another thread's than the one that its last line `thread` tells of. */
+static void write_lent(void)
+{
+    put_text(WORD_LENT "\n");
+    stream_append(false);
+}
+
+/* A seat for the thread: the one that it had, one that nobody has had, or one that is free now. More than SEATS for none. */
+static uint32_t seat_for(const struct thread *thread)
+{
+    uint32_t seat = thread->last_seat;
+    if (seat != 0 && !is_lent(seat))
+        return seat;
+    if (seats_begun < SEATS)
+        return ++seats_begun;
+    for (seat = 1; seat <= SEATS && is_lent(seat); seat++)
+        ;
+    return seat;
+}
+
+bool seat_found(struct thread *thread)
+{
+    if (thread->seat)
+        return true;
+    uint32_t seat = seat_for(thread);
+    if (seat > SEATS)
+        return false;
+    bool is_named = sitters[seat] == thread && thread->last_seat == seat;
+    if (!is_named && sitters[seat] && !are_lent) {
+        are_lent = true;
+        write_lent();
+    }
+    seats_lent[(seat - 1) / 64] |= (uint64_t)1 << (seat - 1) % 64;
+    thread->seat = thread->last_seat = seat;
+    sitters[seat] = thread;
     if (!is_named)
-        write_thread(stream, thread);
+        write_thread(thread);
     return true;
 }
 
-/* Gives the seat back where nothing of the thread stands in the stream any longer. */
-void seat_given_back(int stream, struct thread *thread)
+bool seat_taken(struct thread *thread)
 {
-    uint32_t seat = thread->seat[stream];
-    if (seat == 0 || thread->written[stream] != 0)
-        return;
-    seats_lent[stream][(seat - 1) / 64] &= ~((uint64_t)1 << (seat - 1) % 64);
-    thread->seat[stream] = 0;
+    bool found = seat_found(thread);
+    if (!found)
+        count_missed(MISSED_SEATS);
+    return found;
 }
 
-static bool type_is_numbered(int stream, struct type *type)
+/* Gives the seat back where nothing of the thread stands in the stream any longer. */
+void seat_given_back(struct thread *thread)
 {
-    uint32_t *number = mark(&type->marks, stream);
+    uint32_t seat = thread->seat;
+    if (seat == 0 || thread->written != 0)
+        return;
+    seats_lent[(seat - 1) / 64] &= ~((uint64_t)1 << (seat - 1) % 64);
+    thread->seat = 0;
+}
+
+static bool type_is_numbered(struct type *type)
+{
+    uint32_t *number = mark(&type->marks);
     if (*number == 0) {
-        if (types_numbered[stream] == TYPES) {
-            count_missed(stream, MISSED_TYPES);
+        if (types_numbered == TYPES) {
+            count_missed(MISSED_TYPES);
             *number = NUMBER_NONE;
         } else {
-            *number = ++types_numbered[stream];
-            write_type(stream, type);
+            *number = ++types_numbered;
+            write_type(type);
         }
     }
     return *number != NUMBER_NONE;
 }
 
-/* False of a type that was met when the stream had room for no further one. */
-bool type_fits(int stream, struct type *type)
+uint32_t type_number_for_pair(struct type *type)
 {
-    return *mark(&type->marks, stream) != NUMBER_NONE;
+    return type_is_numbered(type) ? *mark(&type->marks) : 0;
+}
+
+/* False of a type that was met when the stream had room for no further one. */
+bool type_fits(struct type *type)
+{
+    return *mark(&type->marks) != NUMBER_NONE;
 }
 
 /*
  * The number of the lock, 0 where it has none in this stream. The thread has a seat and nothing pending. A lock that is
  * gone may still be held in the stream: then its number isn't used again.
  */
-uint32_t lock_number(int stream, struct thread *thread, struct lock *lock)
+uint32_t lock_number(struct thread *thread, struct lock *lock)
 {
-    uint32_t *number = mark(&lock->marks, stream);
-    uint32_t *named = mark(&lock->name->marks, stream);
+    uint32_t *number = mark(&lock->marks);
+    uint32_t *named = mark(&lock->name->marks);
     if (*number == 0) {
-        if (!type_is_numbered(stream, lock->type)) {
+        if (!type_is_numbered(lock->type)) {
             *number = NUMBER_NONE;
-        } else if (*named != 0 && holders[stream][*named] == 0) {
+        } else if (*named != 0 && holders[*named] == 0) {
             *number = *named;
-        } else if (locks_numbered[stream] == LOCKS) {
-            count_missed(stream, MISSED_LOCKS);
+        } else if (locks_numbered == LOCKS) {
+            count_missed(MISSED_LOCKS);
             *number = NUMBER_NONE;
         } else {
-            *number = *named = ++locks_numbered[stream];
-            write_init(stream, thread, lock);
+            *number = *named = ++locks_numbered;
+            write_init(thread, lock);
         }
     }
     return *number == NUMBER_NONE ? 0 : *number;
 }
 
-/* As lock_number, for an order of single locks: it takes none of the numbers that may be needed for the trace. */
-uint32_t lock_number_for_order(int stream, struct thread *thread, struct lock *lock)
+/* As lock_number, for a pair of single locks: it takes none of the numbers that may be needed for the trace. */
+uint32_t lock_number_for_pair(struct thread *thread, struct lock *lock)
 {
-    uint32_t number = *mark(&lock->marks, stream);
-    if (number == 0 && locks_numbered[stream] < LOCKS / 2)
-        return lock_number(stream, thread, lock);
+    uint32_t number = *mark(&lock->marks);
+    if (number == 0 && thread->seat != 0 && locks_numbered < LOCKS / 2)
+        return lock_number(thread, lock);
     return number == NUMBER_NONE ? 0 : number;
 }
 
 /* The stream has the lock of that number held, or asked for. */
-void number_stands(int stream, uint32_t number)
+void number_stands(uint32_t number)
 {
-    holders[stream][number]++;
+    holders[number]++;
 }
 
-void number_stands_no_more(int stream, uint32_t number)
+void number_stands_no_more(uint32_t number)
 {
-    holders[stream][number]--;
+    holders[number]--;
 }
 
-bool number_has_others(int stream, struct lock *lock, uint32_t own)
+bool number_has_others(struct lock *lock, uint32_t own)
 {
-    uint32_t number = *mark(&lock->marks, stream);
-    return number != 0 && number != NUMBER_NONE && holders[stream][number] > own;
+    uint32_t number = *mark(&lock->marks);
+    return number != 0 && number != NUMBER_NONE && holders[number] > own;
 }
 
 /* The number of the place, which stands in the stream from then on. */
-uint32_t place_number(int stream, uint32_t place)
+uint32_t place_number(uint32_t place)
 {
     if (place == 0)
         return 0;
-    uint32_t *number = mark(&place_at(place)->marks, stream);
+    uint32_t *number = mark(&place_at(place)->marks);
     if (*number == 0) {
         *number = place;
-        write_place(stream, place);
+        write_place(place);
     }
     return place;
 }
 
-/* The child's streams have nothing of the parent's: what its other threads held is held by nobody. */
+/* The child's stream has nothing of the parent's: what its other threads held is held by nobody. */
 void seats_forked(void)
 {
-    for (int stream = 0; stream < STREAMS; stream++) {
-        for (uint32_t i = 0; i < SEATS / 64; i++)
-            seats_lent[stream][i] = 0;
-        memset(holders[stream], 0, (locks_numbered[stream] + 1) * sizeof *holders[stream]);
-        types_numbered[stream] = locks_numbered[stream] = 0;
-    }
+    memset(sitters, 0, sizeof sitters);
+    memset(seats_lent, 0, sizeof seats_lent);
+    seats_begun = 0;
+    are_lent = false;
+    memset(holders, 0, (locks_numbered + 1) * sizeof *holders);
+    types_numbered = locks_numbered = 0;
 }

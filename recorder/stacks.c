@@ -87,7 +87,7 @@ COLD uint32_t stack_of_held(uint32_t place, struct caller caller)
     uint8_t left = place ? detour_at(place) : DETOUR_NONE;
     if (stacks_all)
         return stack_of(caller);
-    if (left == DETOUR_NONE || left >= DETOUR_LIBRARY)
+    if (left == DETOUR_NONE || left >= DETOUR_PLANNED)
         return 0;
     bool is_new = false;
     uint32_t number = stack_found(caller, &is_new);
@@ -99,19 +99,19 @@ COLD uint32_t stack_of_held(uint32_t place, struct caller caller)
 }
 
 /* `stack NUMBER PLACE..`, innermost first, once in a stream: before the first line that has it. Under the mutex. */
-void stack_stands(int stream, uint32_t number)
+void stack_stands(uint32_t number)
 {
     struct stack *stack = &stacks[number - 1];
-    uint32_t *written = mark(&stack->marks, stream);
+    uint32_t *written = mark(&stack->marks);
     if (*written)
         return;
     *written = 1;
     for (uint32_t i = 0; i < stack->count; i++)
-        place_number(stream, stack->places[i]);
-    put_text(stream, WORD_STACK);
-    put_number(stream, number);
+        place_number(stack->places[i]);
+    put_text(WORD_STACK);
+    put_number(number);
     for (uint32_t i = 0; i < stack->count; i++)
-        put_number(stream, stack->places[i]);
-    put_text(stream, "\n");
-    stream_append(stream, false);
+        put_number(stack->places[i]);
+    put_text("\n");
+    stream_append(false);
 }

@@ -6,6 +6,7 @@
  * or from the C library on the recorder's behalf) is passed on and not recorded.
  */
 #include "judge.h"
+#include "steer.h"
 
 #include <dlfcn.h>
 #include <errno.h>
@@ -18,8 +19,6 @@
 
 struct real real;
 __thread struct thread self __attribute__((tls_model("initial-exec")));
-bool writes[STREAMS];
-bool writes_all;
 bool all_slow;
 const char *skipped = "";
 uint32_t depth = 2;
@@ -138,13 +137,9 @@ void table_goes(void *memory, size_t bytes)
 
 static bool settings_read(void)
 {
-    const char *streams = getenv("RECORDER_STREAMS");
     const char *frames = getenv("RECORDER_DEPTH");
     if (!secure_getenv("RECORDER_DIRECTORY") && !judge_is_wanted())
         return false;
-    writes[FULL] = streams && (strcmp(streams, "full") == 0 || strcmp(streams, "both") == 0);
-    writes[CONDENSED] = !streams || strcmp(streams, "full") != 0;
-    writes_all = writes[FULL];
     if (frames && frames[0] >= '1' && frames[0] <= '0' + (int)DEPTH_MOST && frames[1] == '\0')
         depth = (uint32_t)(frames[0] - '0');
     const char *shown = getenv("RECORDER_FRAMES"), *skip = getenv("RECORDER_SKIP");
@@ -154,7 +149,8 @@ static bool settings_read(void)
         skipped = skip;
     stacks_all = frames_shown > 1 && getenv("RECORDER_HELD") != NULL;
     semaphores_are_locks = getenv("RECORDER_SEMAPHORES") != NULL;
-    all_slow = writes_all || stacks_all;
+    steer_begins();
+    all_slow = WRITES_ALL || stacks_all || steer_is_everywhere();
     if (all_slow)
         asked_page[ASKED_AT] = ASKED_ALWAYS;
     return true;
@@ -181,8 +177,8 @@ static bool has_room(void)
 /* False where there is no memory. Then the recorder stays off. */
 static bool tables_made(void)
 {
-    if (!has_room() || !locks_made() || !places_made() || !sites_made() || !stacks_made() || !chains_made()
-        || !singles_made() || !blocks_made())
+    if (!has_room() || !locks_made() || !places_made() || !sites_made() || !stacks_made()
+        || !chains_made() || !single_pairs_made() || !blocks_made())
         return false;
     alive = table(4096);
     return alive != NULL;
@@ -227,7 +223,7 @@ static void awake(void)
         say_started();
         status_lacks_memory();
         judge_lacks_memory();
-    } else if (streams_made()) {
+    } else if (stream_made()) {
         *alive = 1;
         madvise((void *)alive, 4096, MADV_WIPEONFORK);
         judge_begins();
@@ -388,12 +384,12 @@ static void begin_child(void *unused)
 {
     (void)unused;
     seats_forked();
-    pairs_forked();
     status_forked();
-    streams_forked();
-    locks_forked();
+    stream_forked();
     chains_forked();
     waiters_forked();
+    steer_forked();
+    single_pairs_forked();
     singles_forked();
     threads_forked();
     judge_forked();
@@ -481,7 +477,7 @@ __attribute__((destructor)) static void ended(void)
     objects_look();
     if (!recorder_enters())
         return;
-    streams_end();
+    stream_end();
     recorder_leaves();
     judge_ends();
 }

@@ -1,5 +1,5 @@
 /*
- * The file that a stream stands in.
+ * The file that the stream stands in.
  *
  * The file is mapped, so that what was written is in it whatever ends the program, and no file descriptor of the
  * program is ever touched. It is made when the program is loaded, since later the program may have no right to, or no
@@ -24,9 +24,10 @@ enum { PATH_MOST = 512, LINE_MOST = 1 << 14, PIECE = 1 << 16, ATTEMPTS_MOST = 10
 #define MADV_POPULATE_WRITE 23
 #endif
 
-static struct stream {
-    const char *suffix;
-    size_t window;        /* how much of the file is mapped at a time */
+/* How much of the file is mapped at a time. */
+enum { WINDOW = 1 << 20 };
+
+static struct {
     char path[PATH_MOST];
     char *at;             /* where the next line goes */
     char *ready;          /* up to here there is room on the disk */
@@ -42,32 +43,29 @@ static struct stream {
     char line[LINE_MOST];
     size_t length;
     bool is_long; /* the line doesn't fit */
-} streams[STREAMS] = {
-    [CONDENSED] = {.suffix = "", .window = 1 << 20},
-    [FULL] = {.suffix = ".full", .window = 1 << 22},
-};
+} stream;
 __attribute__((aligned(4096))) char asked_page[PAGE_BYTES];
 static size_t name_at; /* where the file's name begins in its path */
 #define NAME_OF(number, name) " " name " ",
 static const char *const missed_names[MISSES] = {EACH_MISSED(NAME_OF)};
 
-static void put(struct stream *stream, const char *from, size_t length)
+static void put(const char *from, size_t length)
 {
-    if (length > LINE_MOST - stream->length) {
-        stream->is_long = true;
+    if (length > LINE_MOST - stream.length) {
+        stream.is_long = true;
         return;
     }
-    memcpy(stream->line + stream->length, from, length);
-    stream->length += length;
+    memcpy(stream.line + stream.length, from, length);
+    stream.length += length;
 }
 
-void put_text(int stream, const char *from)
+void put_text(const char *from)
 {
-    put(&streams[stream], from, strlen(from));
+    put(from, strlen(from));
 }
 
 /* A space, and the number in so many digits of its base as it has. */
-static void put_digits(int stream, uint64_t number, uint32_t base)
+static void put_digits(uint64_t number, uint32_t base)
 {
     char digits[21];
     size_t at = sizeof digits;
@@ -75,28 +73,27 @@ static void put_digits(int stream, uint64_t number, uint32_t base)
         digits[--at] = "0123456789abcdef"[number % base];
     while (number /= base);
     digits[--at] = ' ';
-    put(&streams[stream], digits + at, sizeof digits - at);
+    put(digits + at, sizeof digits - at);
 }
 
-void put_number(int stream, uint64_t number)
+void put_number(uint64_t number)
 {
-    put_digits(stream, number, 10);
+    put_digits(number, 10);
 }
 
-void put_hexadecimal(int stream, uint64_t number)
+void put_hexadecimal(uint64_t number)
 {
-    put_digits(stream, number, 16);
+    put_digits(number, 16);
 }
 
-void put_word(int number, const char *word)
+void put_word(const char *word)
 {
-    struct stream *stream = &streams[number];
-    put_text(number, *word ? " " : " " NO_NAME);
-    size_t room = LINE_MOST - stream->length, length = word_escaped(word, stream->line + stream->length, room);
+    put_text(*word ? " " : " " NO_NAME);
+    size_t room = LINE_MOST - stream.length, length = word_escaped(word, stream.line + stream.length, room);
     if (length > room)
-        stream->is_long = true;
+        stream.is_long = true;
     else
-        stream->length += length;
+        stream.length += length;
 }
 
 /* A file that grows over this limit ends the program. */
@@ -114,51 +111,51 @@ static bool is_allowed(uint64_t size)
  * A program of root's may give its rights up, and opens the file by its name again. Other users can't find that name:
  * they may not read the folder, which is in one of a name that was drawn by lot.
  */
-static void opens_to_all(const struct stream *stream, int file)
+static void opens_to_all(int file)
 {
     struct stat folder;
     char name[PATH_MOST];
-    memcpy(name, stream->path, name_at);
+    memcpy(name, stream.path, name_at);
     name[name_at] = '\0';
     if (geteuid() == 0 && stat(name, &folder) == 0 && (folder.st_mode & (S_IROTH | S_ISVTX)) == S_ISVTX)
         fchmod(file, 0666);
 }
 
 /* Maps the file's next window. False where there is none. */
-static bool window_opens(struct stream *stream, int flags)
+static bool window_opens(int flags)
 {
     void *window = MAP_FAILED;
-    uint64_t size = stream->offset + stream->window;
-    int file = is_allowed(size) ? open(stream->path, O_RDWR | O_CLOEXEC | flags, 0600) : -1;
+    uint64_t size = stream.offset + WINDOW;
+    int file = is_allowed(size) ? open(stream.path, O_RDWR | O_CLOEXEC | flags, 0600) : -1;
     if (file < 0)
         return false;
     if (flags & O_CREAT)
-        opens_to_all(stream, file);
+        opens_to_all(file);
     if (ftruncate(file, (off_t)size) == 0)
-        window = mmap(NULL, stream->window, PROT_READ | PROT_WRITE, MAP_SHARED, file, (off_t)stream->offset);
-    if (window != MAP_FAILED && stream->offset == 0 && !all_slow)
+        window = mmap(NULL, WINDOW, PROT_READ | PROT_WRITE, MAP_SHARED, file, (off_t)stream.offset);
+    if (window != MAP_FAILED && stream.offset == 0 && !all_slow)
         mmap(asked_page, PAGE_BYTES, PROT_READ | PROT_WRITE, MAP_SHARED | MAP_FIXED, file, 0);
     close(file);
     if (window == MAP_FAILED)
         return false;
-    own_memory(window, stream->window);
-    if (stream->offset == 0)
-        stream->first = window;
-    else if (stream->end - stream->window != stream->first)
-        table_goes(stream->end - stream->window, stream->window);
-    stream->at = stream->ready = window;
-    stream->end = stream->at + stream->window;
-    stream->offset = size;
+    own_memory(window, WINDOW);
+    if (stream.offset == 0)
+        stream.first = window;
+    else if (stream.end - WINDOW != stream.first)
+        table_goes(stream.end - WINDOW, WINDOW);
+    stream.at = stream.ready = window;
+    stream.end = stream.at + WINDOW;
+    stream.offset = size;
     return true;
 }
 
 /* Asks for room by the file's name, as kernels before 5.14 need it. */
-static bool piece_is_given(struct stream *stream)
+static bool piece_is_given(void)
 {
-    int file = open(stream->path, O_RDWR | O_CLOEXEC);
+    int file = open(stream.path, O_RDWR | O_CLOEXEC);
     if (file < 0)
         return false;
-    int error = posix_fallocate(file, (off_t)stream->offset - (stream->end - stream->ready), PIECE);
+    int error = posix_fallocate(file, (off_t)stream.offset - (stream.end - stream.ready), PIECE);
     close(file);
     errno = error;
     return error == 0;
@@ -183,74 +180,71 @@ static enum failure cause_of(int error)
 }
 
 /* Room for a further piece of the file. False where there is none, and the stream has ended. */
-static bool grows(struct stream *stream)
+static bool grows(void)
 {
-    bool given = stream->ready < stream->end || window_opens(stream, 0);
-    if (given && madvise(stream->ready, PIECE, MADV_POPULATE_WRITE) != 0)
-        given = errno == EINVAL && piece_is_given(stream);
+    bool given = stream.ready < stream.end || window_opens(0);
+    if (given && madvise(stream.ready, PIECE, MADV_POPULATE_WRITE) != 0)
+        given = errno == EINVAL && piece_is_given();
     if (given)
-        stream->ready += PIECE;
+        stream.ready += PIECE;
     else
-        stream->cause = cause_of(errno);
-    stream->ended = !given;
+        stream.cause = cause_of(errno);
+    stream.ended = !given;
     return given;
 }
 
 /* The line that was put isn't written: cut, it would be another one. */
-static COLD void leave_out(int number)
+static COLD void leave_out(void)
 {
-    streams[number].is_long = false;
-    streams[number].length = 0;
-    count_missed(number, MISSED_LONG);
+    stream.is_long = false;
+    stream.length = 0;
+    count_missed(MISSED_LONG);
 }
 
 /* The line that was put goes to the file. Where there is no room any more, the stream ends with what it has. */
-void stream_append(int number, bool is_entry)
+void stream_append(bool is_entry)
 {
-    struct stream *stream = &streams[number];
-    const char *from = stream->line;
-    if (UNLIKELY(stream->is_long))
-        leave_out(number);
-    size_t left = name_at ? stream->length : 0;
-    while (left > 0 && !stream->ended) {
-        size_t room = (size_t)(stream->ready - stream->at);
+    const char *from = stream.line;
+    if (UNLIKELY(stream.is_long))
+        leave_out();
+    size_t left = name_at ? stream.length : 0;
+    while (left > 0 && !stream.ended) {
+        size_t room = (size_t)(stream.ready - stream.at);
         size_t now = left < room ? left : room;
-        memcpy(stream->at, from, now);
-        stream->at += now;
+        memcpy(stream.at, from, now);
+        stream.at += now;
         from += now;
         left -= now;
-        if (left > 0 && !grows(stream))
-            count_failure(stream->cause);
+        if (left > 0 && !grows())
+            count_failure(stream.cause);
     }
-    stream->length = 0;
-    stream->entries += is_entry;
+    stream.length = 0;
+    stream.entries += is_entry;
 }
 
-bool streams_have_files(void)
+bool stream_has_file(void)
 {
     return name_at != 0;
 }
 
-uint32_t stream_entries(int stream)
+uint32_t stream_entries(void)
 {
-    return streams[stream].entries;
+    return stream.entries;
 }
 
 /* A file that nobody has: a process may have had this one's number, or have been this one before an exec. */
-static bool file_opens(int number)
+static bool file_opens(void)
 {
-    struct stream *stream = &streams[number];
     for (uint32_t attempt = 0; attempt < 1000; attempt++) {
-        stream->length = 0;
-        put_number(number, (uint64_t)getpid());
-        put_number(number, attempt);
-        put_text(number, stream->suffix);
-        memcpy(stream->path + name_at, stream->line, stream->length);
-        stream->path[name_at + stream->length] = '\0';
-        *strchr(stream->path + name_at, ' ') = '/';
-        *strchr(stream->path + name_at, ' ') = '.';
-        stream->length = 0;
-        if (window_opens(stream, O_CREAT | O_EXCL))
+        stream.length = 0;
+        put_number((uint64_t)getpid());
+        put_number(attempt);
+        memcpy(stream.path + name_at, stream.line, stream.length);
+        stream.path[name_at + stream.length] = '\0';
+        *strchr(stream.path + name_at, ' ') = '/';
+        *strchr(stream.path + name_at, ' ') = '.';
+        stream.length = 0;
+        if (window_opens(O_CREAT | O_EXCL))
             return true;
         if (errno != EEXIST)
             return false;
@@ -259,72 +253,83 @@ static bool file_opens(int number)
 }
 
 /* The stream's first lines. */
-static void begin(int number)
+static void begin(void)
 {
-    struct stream *stream = &streams[number];
-    stream->begun = true;
-    put_text(number, WORD_ASKED " 0 " WORD_VERSION);
-    put_number(number, FORMAT_VERSION);
-    put_text(number, " " WORD_MISSED);
+    stream.begun = true;
+    put_text(WORD_ASKED " 0 " WORD_VERSION);
+    put_number(FORMAT_VERSION);
+    put_text(" " WORD_MISSED);
     for (int what = 0; what < MISSES; what++) {
-        put_text(number, missed_names[what]);
-        stream->counts[what] = stream->at + stream->length;
-        put_text(number, "0000000000");
+        put_text(missed_names[what]);
+        stream.counts[what] = stream.at + stream.length;
+        put_text("0000000000");
     }
-    put_text(number, "\n" WORD_PROGRAM);
-    put_word(number, program_name);
-    put_text(number, "\n");
-    stream_append(number, false);
+    put_text("\n" WORD_PROGRAM);
+    put_word(program_name);
+    put_text("\n");
+    stream_append(false);
 }
 
 /*
  * Whether the stream takes lines. What it doesn't take is counted outside it. Without a folder (name_at is 0) no file has
  * them, and they are judged alone.
  */
-bool stream_opens(int number)
+bool stream_opens(void)
 {
-    struct stream *stream = &streams[number];
-    if (LIKELY(stream->begun && !stream->ended) || name_at == 0)
+    if (LIKELY(stream.begun && !stream.ended) || name_at == 0)
         return true;
-    if (stream->ended) {
-        count_failure(stream->cause);
+    if (stream.ended) {
+        count_failure(stream.cause);
         return false;
     }
-    if (!stream->first && (stream->attempts >= ATTEMPTS_MOST || !file_opens(number))) {
-        if (stream->attempts++ < ATTEMPTS_MOST)
-            stream->cause = cause_of(errno);
-        count_failure(stream->cause);
+    if (!stream.first && (stream.attempts >= ATTEMPTS_MOST || !file_opens())) {
+        if (stream.attempts++ < ATTEMPTS_MOST)
+            stream.cause = cause_of(errno);
+        count_failure(stream.cause);
         return false;
     }
-    if (!grows(stream)) {
-        count_failure(stream->cause);
+    if (!grows()) {
+        count_failure(stream.cause);
         return false;
     }
-    begin(number);
+    begin();
     return true;
 }
 
 /* Whether somebody who looks on has set the byte. */
-bool stream_is_asked(int number)
+bool stream_is_asked(void)
 {
-    const struct stream *stream = &streams[number];
-    return writes[number] && stream->first && *(const volatile char *)&stream->first[ASKED_AT] == ASKED_NOW;
+    return stream.first && *(const volatile char *)&stream.first[ASKED_AT] == ASKED_NOW;
 }
 
-void stream_is_answered(int number)
+void stream_is_answered(void)
 {
-    streams[number].first[ASKED_AT] = ASKED_NOT;
+    stream.first[ASKED_AT] = ASKED_NOT;
 }
 
-/* Makes the files. Where that fails, it is tried again when there is something to write. */
-static void files_open(void)
+static uint64_t milliseconds(void)
 {
-    for (int i = 0; i < STREAMS; i++)
-        if (writes[i] && name_at)
-            file_opens(i);
+    struct timespec now;
+    clock_gettime(CLOCK_MONOTONIC, &now);
+    return (uint64_t)now.tv_sec * 1000 + (uint64_t)now.tv_nsec / 1000000;
 }
 
-bool streams_made(void)
+static uint64_t made_at;
+
+uint64_t stream_time(void)
+{
+    return milliseconds() - made_at;
+}
+
+/* Makes the file. Where that fails, it is tried again when there is something to write. */
+static void file_is_made(void)
+{
+    made_at = milliseconds();
+    if (name_at)
+        file_opens();
+}
+
+bool stream_made(void)
 {
     const char *directory = secure_getenv("RECORDER_DIRECTORY");
     name_at = directory ? strlen(directory) : 0;
@@ -332,71 +337,59 @@ bool streams_made(void)
         return judge_is_wanted();
     if (name_at > PATH_MOST - 64)
         return false;
-    for (int i = 0; i < STREAMS; i++)
-        memcpy(streams[i].path, directory, name_at + 1);
-    files_open();
+    memcpy(stream.path, directory, name_at + 1);
+    file_is_made();
     return true;
 }
 
 /* Counts in the file itself, which is read also when the program was killed. Under the mutex. */
-void count_missed(int number, enum missed what)
+void count_missed(enum missed what)
 {
-    if (!writes[number] || !stream_opens(number))
+    if (!stream_opens())
         return;
     if (name_at)
-        count_digits(streams[number].counts[what]);
+        count_digits(stream.counts[what]);
     judge_missed(what);
 }
 
-void count_missed_all(enum missed what)
-{
-    for (int stream = 0; stream < STREAMS; stream++)
-        count_missed(stream, what);
-}
-
-/* As count_missed_all, outside the mutex. */
+/* As count_missed, outside the mutex. */
 COLD void count_missed_outside(enum missed what)
 {
     if (!recorder_enters())
         return;
-    count_missed_all(what);
+    count_missed(what);
     recorder_leaves();
 }
 
-static void unmap(struct stream *stream)
+static void unmap(void)
 {
-    if (!stream->first)
+    if (!stream.first)
         return;
-    if (stream->first != stream->end - stream->window)
-        table_goes(stream->first, stream->window);
-    table_goes(stream->end - stream->window, stream->window);
+    if (stream.first != stream.end - WINDOW)
+        table_goes(stream.first, WINDOW);
+    table_goes(stream.end - WINDOW, WINDOW);
     if (!all_slow)
         mmap(asked_page, PAGE_BYTES, PROT_READ | PROT_WRITE, MAP_PRIVATE | MAP_ANONYMOUS | MAP_FIXED, -1, 0);
-    stream->at = stream->ready = stream->end = stream->first = NULL;
-    stream->offset = 0;
+    stream.at = stream.ready = stream.end = stream.first = NULL;
+    stream.offset = 0;
 }
 
-/* The child has streams of its own. */
-void streams_forked(void)
+/* The child has a stream of its own. */
+void stream_forked(void)
 {
-    for (int i = 0; i < STREAMS; i++) {
-        struct stream *stream = &streams[i];
-        unmap(stream);
-        stream->entries = stream->attempts = 0;
-        stream->length = 0;
-        stream->is_long = false;
-        stream->begun = stream->ended = false;
-    }
-    files_open();
+    unmap();
+    stream.entries = stream.attempts = 0;
+    stream.length = 0;
+    stream.is_long = false;
+    stream.begun = stream.ended = false;
+    file_is_made();
 }
 
-/* The process ends: files without a line go. Where it locks after all, they are made anew. */
-void streams_end(void)
+/* The process ends: a file without a line goes. Where it locks after all, it is made anew. */
+void stream_end(void)
 {
-    for (int i = 0; i < STREAMS; i++) {
-        if (!streams[i].first || streams[i].begun)
-            continue;
-        unlink(streams[i].path);
-        unmap(&streams[i]);
-    }
+    if (!stream.first || stream.begun)
+        return;
+    unlink(stream.path);
+    unmap();
 }

@@ -62,6 +62,13 @@ static int begin_c11(void *given)
     return beginning.routine.c11(beginning.argument);
 }
 
+/* The thread tells of its pairs of single locks again, since it has made another thread. */
+static void tell_anew(void)
+{
+    self.serial += 1u << SERIAL_BITS;
+    forget_requests(&self);
+}
+
 /* NULL where the maker isn't to be known: nothing is recorded, or there is no room. */
 static struct beginning *taken_by(struct caller caller, void *argument)
 {
@@ -80,8 +87,8 @@ static struct beginning *taken_by(struct caller caller, void *argument)
         atomic_fetch_add(&threads_in_making, 1);
         found->at = atomic_fetch_add(&threads_made_and_joined, 1);
         found->argument = argument;
-        if (self.serial >> SERIAL_BITS < ORDER_TELLINGS - 1)
-            self.serial += 1u << SERIAL_BITS;
+        if (self.serial >> SERIAL_BITS < PAIR_TELLINGS - 1)
+            tell_anew();
     }
     makes_at = 0;
     goes_outside(&self);

@@ -62,7 +62,7 @@ static struct waiter *waiter_taken(void)
 
 void waiter_begins(const struct request *request, const void *mutex)
 {
-    struct waiter *waiter = streams_have_files() || judge_watches_waits() ? waiter_taken() : NULL;
+    struct waiter *waiter = stream_has_file() || judge_watches_waits() ? waiter_taken() : NULL;
     if (!waiter)
         return;
     waiter->request = *request;
@@ -108,14 +108,14 @@ void thread_name(const struct thread *thread, char name[THREAD_NAME_ROOM])
 }
 
 /* Whether the stream has a request for one of its locks; not where one was taken from it. */
-static bool is_waited_for(int stream, const struct thread *thread)
+static bool is_waited_for(const struct thread *thread)
 {
     bool found = false;
     for (uint32_t i = 0; i < thread->count; i++) {
         const struct held *held = &thread->held[i];
         if (held->lost != atomic_load(&held->lock->lost))
             return false;
-        found |= number_has_others(stream, held->lock, held->written >> stream & 1);
+        found |= number_has_others(held->lock, held->written & IS_WRITTEN);
     }
     return found;
 }
@@ -129,12 +129,7 @@ static bool is_there(const struct waiter *waiter)
 
 static bool is_to_be_written(const struct waiter *waiter)
 {
-    if (!is_there(waiter))
-        return false;
-    for (int stream = 0; stream < STREAMS; stream++)
-        if (writes[stream] && is_waited_for(stream, waiter->thread))
-            return true;
-    return false;
+    return is_there(waiter) && is_waited_for(waiter->thread);
 }
 
 /* Where one is written, others may come to be waited for. */
@@ -158,6 +153,13 @@ void waiters_written(void)
 {
     if (UNLIKELY(atomic_load(&unwritten) != 0))
         write_waiters();
+}
+
+void waiters_each(void (*function)(const struct request *request))
+{
+    for (uint32_t i = 0; i < WAITERS; i++)
+        if (atomic_load(&waiters[i].state) == WRITTEN && is_there(&waiters[i]))
+            function(&waiters[i].request);
 }
 
 /* The child's one thread doesn't wait. */

@@ -10,6 +10,7 @@
 #define WAYS_H
 
 #include "quick.h"
+#include "steer.h"
 
 #include <errno.h>
 
@@ -31,22 +32,43 @@ static inline bool is_got(int answer)
     return LIKELY(answer == 0) || answer == EOWNERDEAD;
 }
 
-static inline struct timespec a_second_from_now(void)
+/* How many milliseconds a request waits before it is written as pending: always, and in a steered run. */
+enum { PATIENCE = 1000, STEERED_PATIENCE = 50, STEERED_LOOKS = 5 };
+
+static inline struct timespec time_from_now(uint32_t milliseconds)
 {
     struct timespec now;
     clock_gettime(CLOCK_REALTIME, &now);
-    now.tv_sec++;
+    now.tv_sec += milliseconds / 1000;
+    now.tv_nsec += milliseconds % 1000 * 1000000L;
+    if (now.tv_nsec >= 1000000000) {
+        now.tv_sec++;
+        now.tv_nsec -= 1000000000;
+    }
     return now;
+}
+
+/* In a steered run it is told some times on end whom the lock names as its holder. */
+COLD static int wait_watched(const struct request *request, const struct way *way, void *address)
+{
+    for (int looks = 0; looks < STEERED_LOOKS; looks++) {
+        steer_waits(request);
+        struct timespec limit = time_from_now(STEERED_PATIENCE);
+        int answer = way->timed(address, &limit);
+        if (answer != ETIMEDOUT)
+            return answer;
+    }
+    return way->lock(address);
 }
 
 COLD static int wait_patiently(struct request *request, const struct way *way, void *address)
 {
-    struct timespec limit = a_second_from_now();
+    struct timespec limit = time_from_now(steers ? STEERED_PATIENCE : PATIENCE);
     int answer = way->timed(address, &limit);
     if (answer != ETIMEDOUT)
         return answer;
     request_waits(request);
-    return way->lock(address);
+    return steers ? wait_watched(request, way, address) : way->lock(address);
 }
 
 /* The caller comes in three words, which stand in registers. */
@@ -59,6 +81,8 @@ static __attribute__((noinline)) int acquire_slowly(const struct way *way, void 
         return way->lock(address);
     if (UNLIKELY(request.again != NULL) && way->mode == SHARED)
         error_of_reread(&request);
+    if (UNLIKELY(steers) && steer_asks(&request))
+        request.patient = true;
     int answer = request.patient ? way->look(address) : way->lock(address);
     if (UNLIKELY(request.patient && answer == EBUSY))
         answer = wait_patiently(&request, way, address);

@@ -21,7 +21,7 @@ python_tests() {
     fi
     "$python" same.py >same.plain && RECORD_FRAMES=1 "$record" --log-file log -- "$python" same.py | diff same.plain -
     tell python "what locks answer, $version" $?
-    options="--full --judge" told crowd "$python" crowd.py
+    options="--judge" told crowd "$python" crowd.py
     tell python "a hundred threads, recorded in full and judged, $version" $?
 }
 

@@ -21,7 +21,7 @@ if wanted rust cargo; then
         tell rust "two locks that one line makes, $kind" $?
     done
     # Each line of a full trace stands where the real step can have been.
-    options="--full --judge" told contend "$work/target/release/examples/contend" && [ "$(cat recorded.out)" = "8000 2000 8000" ]
+    options="--judge" told contend "$work/target/release/examples/contend" && [ "$(cat recorded.out)" = "8000 2000 8000" ]
     tell rust "threads that contend, recorded in full and judged" $?
     options="--frames 4 --gen-suppressions" told bank.callers "$work/target/debug/examples/bank"
     tell rust "threads, and lines for the ignore file" $?

@@ -8,15 +8,17 @@ if wanted limits; then
     [ ! -s twice ] && grep -q '^witness: more than 1,023 types of locks: ' err &&
         grep -q '^witness: passed over [1-9][0-9]* times: more than 1,023 types of locks: ' err
     tell limits "types: told once, and counted" $?
-    RECORDER_STREAMS=full WITNESS=1 ./crowd >out 2>err && [ "$(grep -c '^witness: more than 256 threads ' err)" -eq 1 ] &&
+    # A library that judges each request.
+    CFLAGS=-DWRITE_ALL "$top/libwitness/build" "$work/all"
+    LD_LIBRARY_PATH="$work/all" WITNESS=1 ./crowd >out 2>err && [ "$(grep -c '^witness: more than 256 threads ' err)" -eq 1 ] &&
         grep -q '^witness: passed over [1-9][0-9]* times: more than 256 threads ' err
     tell limits "threads at once: told once, and counted" $?
     compile many $linked
-    RECORDER_STREAMS=full WITNESS=1 ./many >out 2>err && [ "$(grep -c '^witness: more than 65,536 locks: ' err)" -eq 1 ] &&
+    LD_LIBRARY_PATH="$work/all" WITNESS=1 ./many >out 2>err && [ "$(grep -c '^witness: more than 65,536 locks: ' err)" -eq 1 ] &&
         grep -q '^witness: passed over [1-9][0-9]* times: more than 65,536 locks: ' err
     tell limits "locks: told once, and counted" $?
     compile pairs -O1 $linked
-    RECORDER_STREAMS=full WITNESS=1 ./pairs 2 1 800000 >out 2>err && grep -q '^[0-9]' out &&
+    LD_LIBRARY_PATH="$work/all" WITNESS=1 ./pairs 2 1 800000 >out 2>err && grep -q '^[0-9]' out &&
         [ "$(grep '^witness: ' err)" = "witness: the verifier's log is full: nothing is judged from here on" ]
     tell limits "the log: told once, and the program goes on" $?
     compile waits $linked

@@ -113,3 +113,13 @@ if wanted optional; then
         echo "left out  optional: GLib isn't there"
     fi
 fi
+
+# A wish of earlier versions is answered, and changes nothing.
+if wanted gone; then
+    compile reversal $linked
+    WITNESS=1 ./reversal 2>plain
+    WITNESS=1 WITNESS_PROFILE=plain ./reversal 2>err
+    told <plain >plain.told
+    [ "$(grep -c '^witness: WITNESS_PROFILE is gone: ' err)" -eq 1 ] && grep -v 'WITNESS_PROFILE' err | told | diff plain.told -
+    tell gone "WITNESS_PROFILE" $?
+fi

@@ -94,7 +94,8 @@ if wanted prove; then
     mkdir -p proving/crates/wit_c/src bin && cp -R "$top/libwitness" "$top/recorder" proving && rm -rf proving/libwitness/out
     printf '#!/bin/sh\necho "$@" >>"%s"\n[ -f out/libwit_c.a ] || cp "%s" out\n' "$work/asked" \
         "${WIT_C:-$top/crates/wit_c/out/libwit_c.a}" >bin/rt && chmod +x bin/rt
-    prove() { PATH="$work/bin:$PATH" env -u WIT_C proving/libwitness/build --prove 2>err; }
+    duty=${WIT_CONDENSED:-$top/crates/wit_condensed_c/out/libwit_condensed_c.a}
+    prove() { PATH="$work/bin:$PATH" WIT_CONDENSED="$duty" env -u WIT_C proving/libwitness/build --prove 2>err; }
     prove && [ "$(cat asked)" = lib ] && [ -f proving/libwitness/out/libwitness.so.1 ]
     tell prove "the verifier is proved and built first" $?
     prove && [ "$(cat asked)" = lib ] && [ ! -s err ]
@@ -139,12 +140,15 @@ fi
 case $chosen in
 *" recorder "*)
     if [ -x "$program" ]; then
+        export WIT_CONDENSED="${WIT_CONDENSED:-$top/crates/wit_condensed_c/out/libwit_condensed_c.a}"
         cp -R "$top/recorder" recorder && rm -rf recorder/out && WITNESS="$program" recorder/record -- true
         touch "$lib/libwitness.so.1" && cp -p "$lib/libwitness.so.1" recorder/out/recorder.so
         # Some of the programs become another user.
         chmod 711 . && mkdir live lanes && chmod 1777 live && ln -s "$top/tools" "$top/examples" "$top/crates" .
-        export WITNESS="$program" WITNESS_LOG="$work/live/%p"
-        recorder/test/run --names | grep -vx dropped | sort -u |
+        export WITNESS="$program" WITNESS_LOG="$work/live/%p" all_built="$work/writes_all"
+        # It builds the recorder that writes each request, for all.
+        recorder/test/run alone >lanes/alone 2>&1
+        recorder/test/run --names | grep -vx -e dropped -e alone | sort -u |
             xargs -P "${LANES:-4}" -n 1 sh -c 'recorder/test/run "$1" >"lanes/$1" 2>&1' sh
         unset WITNESS WITNESS_LOG
         grep -hv '^passed\|^[0-9]* passed, 0 failed$' lanes/*

@@ -13,6 +13,7 @@
 #include <unistd.h>
 
 #include "ending.h"
+#include "library.h"
 
 extern char **environ;
 
@@ -72,6 +73,11 @@ static void add_sources(struct words *words, const char *folder)
     free(entries);
 }
 
+static bool is_recorder(const char *part)
+{
+    return is_library(part) && !*sources_of(part);
+}
+
 static bool is_sanitized(const char *part)
 {
     return strstr(part, ".sanitized") != NULL;
@@ -110,7 +116,7 @@ static struct words words_for(const struct sources *sources, const char *part, c
     add_all(&words, is_library(part) ? for_library : for_command);
     if (is_sanitized(part))
         add_all(&words, for_sanitized);
-    if (is_library(part) && *sources_of(part))
+    if (is_library(part) && !is_recorder(part))
         add_all(&words, for_memory);
     /* The command's own folder has files that aren't in C, too. */
     if (!is_library(part))
@@ -118,6 +124,10 @@ static struct words words_for(const struct sources *sources, const char *part, c
     add(&words, say("-o"));
     add(&words, say("%s", file));
     add_sources(&words, folder);
+    if (is_recorder(part)) {
+        add(&words, library_built(sources));
+        add(&words, say("-Wl,--exclude-libs,ALL"));
+    }
     add(&words, say("-ldl"));
     free(folder);
     return words;

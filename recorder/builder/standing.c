@@ -8,6 +8,7 @@
 #include <unistd.h>
 
 #include "ending.h"
+#include "library.h"
 
 static bool ends_in(const char *name, const char *ending)
 {
@@ -75,6 +76,16 @@ static bool has_later(const char *folder, bool all, const struct stat *than)
     return has;
 }
 
+/* Whether the library that is a part of the recorder is later. One that stands nowhere isn't. */
+static bool has_later_library(const struct sources *sources, const struct stat *than)
+{
+    struct stat found;
+    char *library = library_place(sources);
+    bool has = library && lstat(library, &found) == 0 && is_later(&found, than);
+    free(library);
+    return has;
+}
+
 bool is_current(const struct sources *sources, const char *file)
 {
     struct stat found;
@@ -85,6 +96,8 @@ bool is_current(const struct sources *sources, const char *file)
     if (!is_library(file))
         is = is && !is_later_in(sources->folder, "format.h", true, &found) &&
             !is_later_in(sources->folder, "label.h", true, &found);
+    if (is && is_library(file) && !*sources_of(file))
+        is = !has_later_library(sources, &found);
     free(builder);
     free(own);
     return is;

@@ -20,7 +20,7 @@ bool is_safe(const struct sources *sources, const char *path);
 /*
  * Whether the file is safe and no source of it is newer: none of the folder itself where it is the recorder, none of malloc/
  * where it is what comes before that, else none of command/, no format.h and no label.h; and none of builder/, which says how
- * they are compiled.
+ * they are compiled. Nor is the library later that is a part of the recorder.
  */
 bool is_current(const struct sources *sources, const char *file);
 

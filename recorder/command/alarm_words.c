@@ -4,24 +4,19 @@
 #include "alarms.h"
 #include "memory.h"
 
-/* The threads of the orders, each once. */
+/* The threads of the circle. */
 static void write_threads(FILE *to, const struct alarm *alarm)
 {
-    long thread[sizeof alarm->order / sizeof *alarm->order];
-    size_t count = 0;
-    for (size_t i = alarm->orders; i-- > 0;) {
-        size_t at = 0;
-        while (at < count && thread[at] != alarm->order[i]->thread)
-            at++;
-        if (at == count)
-            thread[count++] = alarm->order[i]->thread;
-    }
-    if (count == 1) {
-        fprintf(to, "thread %ld alone", thread[0]);
+    size_t all = alarm->threads + (alarm->others > 0);
+    if (all == 1 && alarm->threads == 1) {
+        fprintf(to, "thread %ld alone", alarm->thread[0]);
         return;
     }
-    for (size_t i = 0; i < count; i++)
-        fprintf(to, "%s%ld", i == 0 ? "threads " : i + 1 < count ? ", " : " and ", thread[i]);
+    fputs(alarm->threads == 0 ? "" : alarm->threads == 1 ? "thread " : "threads ", to);
+    for (size_t i = 0; i < alarm->threads; i++)
+        fprintf(to, "%s%ld", i == 0 ? "" : i + 1 < all ? ", " : " and ", alarm->thread[i]);
+    if (alarm->others > 0)
+        fprintf(to, "%s%s", alarm->threads == 0 ? "" : " and ", alarm->others == 1 ? "another one" : "others");
     if (alarm->twice)
         fprintf(to, ", of which %ld took two orders", alarm->twice);
 }
@@ -52,7 +47,11 @@ static void write_alarm(FILE *to, const struct alarm *alarm)
     case GRADE_UNKNOWN:
         fputs("single locks: not known, there were more orders of such locks than are kept", to);
         return;
-    case GRADE_TYPES: fputs("single locks: one order only for any two locks: types alone", to); return;
+    case GRADE_TYPES:
+        fputs(alarm->of_one_type ? "single locks: one order: none of these locks was ever taken the other way round"
+                                 : "single locks: one order only for any two locks: types alone",
+            to);
+        return;
     case GRADE_ONE_THREAD:
     case GRADE_THREADS:
         fprintf(to, "single locks: %s, the same locks, ", alarm->steps > 2 ? "all orders of the circle" : "both orders");
@@ -95,6 +94,8 @@ static bool take_word(const char *at, size_t length, struct alarms_wanted *wante
         wanted->not_timed = true;
     else if (is_word(at, length, "apart"))
         wanted->not_apart = true;
+    else if (is_word(at, length, "confirmed"))
+        wanted->confirmed = true;
     else
         return false;
     return true;

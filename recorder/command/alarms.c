@@ -1,222 +1,43 @@
 #include "alarms.h"
 
+#include <stdlib.h>
 #include <string.h>
 
-/* A circle of types: a lock of the last one is held where one of the first is asked for. It is looked for among locks. */
-enum { TYPES_MOST = 16, STEPS_MOST = 200000 };
+#include "memory.h"
+#include "single_graph.h"
+
+/*
+ * Circles are looked for among the single locks of a report's types. A circle has a pair of the report's own: of the type
+ * that was held and of the one that was asked for. Longer ones aren't looked for, and no more are looked at than take so
+ * many steps.
+ */
+enum { TYPES_MOST = 16, CIRCLE_MOST = 256, STEPS_MOST = 50000000 };
+
+/* A pair as a part of a circle: its thread holds the one lock and asks for the other. */
+struct step {
+    const struct single_pair *pair;
+    const struct single_deed *deed; /* NULL: by a third thread, or a further one */
+};
 
 struct search {
+    const struct notes *notes;
     const struct single *single;
-    const struct lock_name *lock;
-    size_t locks;
     const char *type[TYPES_MOST]; /* that was asked for, and those of the established order from there on */
     size_t types;
-    const struct single_order *order[TYPES_MOST]; /* the orders so far, that of the report first */
-    uint32_t serial[TYPES_MOST];                  /* the locks: serial[k] is of type[k] */
+    uint32_t held, asked; /* the report's own types, as single.type counts */
+    struct single_graph graph;
+    uint32_t *distance; /* of each node, how few edges lead from it to the circle's first one; 0 where that isn't known */
+    uint32_t *reached;  /* nodes that have one, the nearest first */
+    uint32_t reaches;
+    bool *is_taken;     /* nodes that the circle has */
+    size_t longest;     /* circle that is looked for */
+    struct step step[CIRCLE_MOST];
     struct alarm best;
+    int least;          /* words that each circle has */
+    enum grade most;    /* that a circle has */
     unsigned long steps;
+    bool is_cut;        /* not all circles were looked at */
 };
-
-static const char *type_of(const struct search *search, const struct single_lock *lock)
-{
-    return lock->number > 0 && lock->number <= search->locks ? search->lock[lock->number - 1].type : NULL;
-}
-
-static bool is_of(const struct search *search, const struct single_lock *lock, const char *type)
-{
-    const char *own = type_of(search, lock);
-    return own && strcmp(own, type) == 0;
-}
-
-static const struct single_lock *asked(const struct single_order *order)
-{
-    return &order->lock[order->locks - 1];
-}
-
-/* The lock among those that the order's thread held. */
-static const struct single_lock *held(const struct single_order *order, uint32_t serial)
-{
-    for (size_t i = 0; i + 1 < order->locks; i++)
-        if (order->lock[i].serial == serial)
-            return &order->lock[i];
-    return NULL;
-}
-
-static bool is_among(const uint32_t serial[], size_t locks, uint32_t wanted)
-{
-    for (size_t i = 0; i < locks; i++)
-        if (serial[i] == wanted)
-            return true;
-    return false;
-}
-
-/* A circle of locks: order k asks for serial[k], which the thread of the next order holds. */
-struct circle {
-    const struct single_order *order[TYPES_MOST];
-    uint32_t serial[TYPES_MOST];
-    size_t orders;
-};
-
-/*
- * The circle that the search has found, without the orders that needn't be in it: where the next order's thread held the
- * lock before, too, that thread waits for the next one all the same. What is dropped keeps nothing apart.
- */
-static struct circle shortest(const struct search *search)
-{
-    struct circle circle = {.orders = search->types};
-    memcpy(circle.order, search->order, search->types * sizeof *circle.order);
-    memcpy(circle.serial, search->serial, search->types * sizeof *circle.serial);
-    for (size_t k = 0; k < circle.orders && circle.orders > 2;) {
-        const struct single_order *next = circle.order[(k + 1) % circle.orders];
-        if (!held(next, circle.serial[(k + circle.orders - 1) % circle.orders])) {
-            k++;
-            continue;
-        }
-        size_t rest = --circle.orders - k;
-        memmove(&circle.order[k], &circle.order[k + 1], rest * sizeof *circle.order);
-        memmove(&circle.serial[k], &circle.serial[k + 1], rest * sizeof *circle.serial);
-        k = 0;
-    }
-    return circle;
-}
-
-/* A lock besides those of the circle that both orders' threads held, one of them not as a reader. */
-static const char *gate_of(const struct search *search, const struct circle *circle, const struct single_order *one,
-    const struct single_order *other)
-{
-    for (size_t i = 0; i + 1 < one->locks; i++) {
-        const struct single_lock *lock = &one->lock[i], *same = held(other, lock->serial);
-        if (same && !(lock->shared && same->shared) && !is_among(circle->serial, circle->orders, lock->serial))
-            return lock->number > 0 && lock->number <= search->locks ? search->lock[lock->number - 1].name : "?";
-    }
-    return NULL;
-}
-
-/* Of an order that two threads have made it isn't known who else has. */
-static bool is_by_one_thread(const struct search *search, const struct single_order *order)
-{
-    for (size_t i = 0; i < search->single->orders; i++)
-        if (search->single->order[i].thread != order->thread && single_are_alike(&search->single->order[i], order))
-            return false;
-    return true;
-}
-
-/* Whether a lock of the order has no number in the trace, so that its type isn't known. */
-static bool is_unknown(const struct single_order *order)
-{
-    for (size_t i = 0; i < order->locks; i++)
-        if (order->lock[i].number == 0)
-            return true;
-    return false;
-}
-
-/* Whether further orders of locks of these types weren't told of. */
-static bool is_one_of_many(const struct search *search, const struct single_order *order)
-{
-    for (size_t i = 0; i < search->single->manys; i++) {
-        const struct single_order *many = &search->single->many[i];
-        size_t alike = 0;
-        if (is_unknown(many))
-            return true;
-        while (alike < order->locks && many->locks == order->locks && type_of(search, &order->lock[alike])
-            && is_of(search, &many->lock[alike], type_of(search, &order->lock[alike])))
-            alike++;
-        if (alike == order->locks)
-            return true;
-    }
-    return false;
-}
-
-static bool is_early(const struct search *search, const struct single_order *one, const struct single_order *other)
-{
-    return single_is_early(search->single, one, other) && !is_one_of_many(search, one);
-}
-
-/* What was made before there was another thread, and never again, can meet nothing that others do: whoever they are. */
-static bool is_first(const struct search *search, const struct single_order *order)
-{
-    return single_is_first(search->single, order) && is_by_one_thread(search, order) && !is_one_of_many(search, order);
-}
-
-static enum apart apart_at_first(const struct search *search, const struct single_order *one,
-    const struct single_order *other)
-{
-    bool is = is_first(search, one), is_other = is_first(search, other);
-    return is && is_other ? APART_AT_FIRST : is || is_other ? APART_ONE_AT_FIRST : NOT_APART;
-}
-
-static enum apart apart_of(const struct search *search, const struct single_order *one, const struct single_order *other)
-{
-    if (!is_by_one_thread(search, one) || !is_by_one_thread(search, other))
-        return apart_at_first(search, one, other);
-    if (single_is_before(search->single, one, other) || single_is_before(search->single, other, one))
-        return APART_BY_JOIN;
-    if (is_early(search, one, other) || is_early(search, other, one))
-        return APART_BY_MAKING;
-    return apart_at_first(search, one, other);
-}
-
-/*
- * Whether the one's thread waits at no time at which the other's does, whatever the threads are. It asks for its lock again
- * as a wait for a condition ends, so it had it when that began. Only after that the other's thread can have taken that lock,
- * and it did so under the one that it asks for. But that one is held by the one's thread since before its wait.
- */
-static bool is_kept_out(const struct single_order *one, const struct single_order *other)
-{
-    const struct single_lock *wanted = held(other, asked(one)->serial), *kept = held(one, asked(other)->serial);
-    return asked(one)->ends_wait && wanted && wanted->under && kept && !kept->shared;
-}
-
-/* What keeps two of the circle's orders from meeting. One thread can't wait in two of them. */
-static void look_at_pair(const struct search *search, struct alarm *alarm, const struct circle *circle, size_t k, size_t l)
-{
-    const struct single_order *one = circle->order[k], *other = circle->order[l];
-    const char *gate = gate_of(search, circle, one, other);
-    if (gate)
-        alarm->gate = gate;
-    if (alarm->apart == NOT_APART)
-        alarm->apart = apart_of(search, one, other);
-    if (alarm->apart == NOT_APART && (is_kept_out(one, other) || is_kept_out(other, one)))
-        alarm->apart = APART_BY_LOCK;
-    if (one->thread != other->thread)
-        return;
-    alarm->repeated++;
-    if (is_by_one_thread(search, one) && is_by_one_thread(search, other)) {
-        alarm->grade = GRADE_ONE_THREAD;
-        alarm->twice = one->thread;
-    }
-}
-
-/*
- * Whether each order asks for its lock again as a wait for a condition ends. Then they never wait for one another, whatever
- * their threads are: of these waits, look at the one that began last. Its thread had the lock then that it asks for. But
- * the next thread of the circle had begun to wait by then, and holds that lock ever since.
- */
-static bool all_end_waits(const struct circle *circle)
-{
-    for (size_t k = 0; k < circle->orders; k++)
-        if (!asked(circle->order[k])->ends_wait)
-            return false;
-    return true;
-}
-
-static struct alarm alarm_of_circle(const struct search *search)
-{
-    struct circle circle = shortest(search);
-    struct alarm alarm = {.grade = GRADE_THREADS, .orders = circle.orders, .steps = search->types};
-    if (all_end_waits(&circle))
-        alarm.apart = APART_BY_WAITS;
-    memcpy(alarm.order, circle.order, sizeof circle.order);
-    for (size_t k = 0; k < circle.orders; k++) {
-        const struct single_lock *waits = asked(circle.order[k]);
-        const struct single_lock *holds = held(circle.order[(k + 1) % circle.orders], circle.serial[k]);
-        alarm.timed |= waits->timed;
-        alarm.readers |= waits->shared && holds && holds->shared;
-        for (size_t other = 0; other < k; other++)
-            look_at_pair(search, &alarm, &circle, other, k);
-    }
-    return alarm;
-}
 
 static int words(const struct alarm *alarm)
 {
@@ -225,9 +46,13 @@ static int words(const struct alarm *alarm)
 
 static bool is_milder(const struct alarm *one, const struct alarm *other)
 {
-    if (one->grade != other->grade)
-        return one->grade < other->grade;
-    return words(one) != words(other) ? words(one) > words(other) : one->repeated > other->repeated;
+    return one->grade != other->grade ? one->grade < other->grade : words(one) > words(other);
+}
+
+/* Whether no circle can be worse. */
+static bool is_worst(const struct search *search, const struct alarm *alarm)
+{
+    return alarm->grade == search->most && words(alarm) == search->least;
 }
 
 /* What isn't known may be the worst of what it stands for. */
@@ -238,77 +63,258 @@ int alarm_mildness(const struct alarm *alarm)
     return 8 * steps[alarm->grade] + words(alarm);
 }
 
-static void keep_if_worse(struct search *search)
+/* The lock among those that a thread holds when it makes the pair, as far as it is known of each time. */
+static const struct single_lock *held(const struct single_pair *pair, uint32_t serial)
 {
-    struct alarm alarm = alarm_of_circle(search);
-    if (search->best.grade < GRADE_ONE_THREAD || is_milder(&search->best, &alarm))
-        search->best = alarm;
+    if (pair->held.serial == serial)
+        return &pair->held;
+    for (size_t i = 0; i < pair->besides; i++)
+        if (pair->beside[i].serial == serial)
+            return &pair->beside[i];
+    return NULL;
+}
+
+static const char *name_of(const struct search *search, const struct single_lock *lock)
+{
+    const struct notes *notes = search->notes;
+    return lock->number > 0 && lock->number <= notes->locks ? notes->lock[lock->number - 1].name : "?";
+}
+
+/* A lock that both pairs' threads held, one of them not as a reader: so they can't both do so at once. */
+static const char *gate_of(const struct search *search, const struct single_pair *one, const struct single_pair *other)
+{
+    for (size_t i = 0; i <= one->besides; i++) {
+        const struct single_lock *lock = i == 0 ? &one->held : &one->beside[i - 1], *same = held(other, lock->serial);
+        if (same && !(lock->shared && same->shared))
+            return name_of(search, lock->number > 0 ? lock : same);
+    }
+    return NULL;
+}
+
+static bool is_by_one_thread(const struct single_pair *pair)
+{
+    return pair->deeds == 1 && !pair->further;
+}
+
+/* What was done before there was another thread, and never again, can meet nothing that others do: whoever they are. */
+static enum apart apart_at_first(const struct search *search, const struct step *one, const struct step *other)
+{
+    bool is = one->deed && single_is_first(search->single, one->deed);
+    bool is_other = other->deed && single_is_first(search->single, other->deed);
+    return is && is_other ? APART_AT_FIRST : is || is_other ? APART_ONE_AT_FIRST : NOT_APART;
+}
+
+/* A pair by several threads is kept apart from another one if it is so of each of them. They are looked at one by one. */
+static enum apart apart_of(const struct search *search, const struct step *one, const struct step *other)
+{
+    const struct single *single = search->single;
+    enum apart at_first = apart_at_first(search, one, other);
+    if (at_first && !(is_by_one_thread(one->pair) && is_by_one_thread(other->pair)))
+        return at_first;
+    if (!one->deed || !other->deed)
+        return at_first;
+    if (single_is_before(single, one->deed, other->deed) || single_is_before(single, other->deed, one->deed))
+        return APART_BY_JOIN;
+    if (single_is_early(single, one->deed, other->deed) || single_is_early(single, other->deed, one->deed))
+        return APART_BY_MAKING;
+    return at_first;
 }
 
 /*
- * The orders from k on: order k is made by a thread that holds serial[k - 1] and asks for a lock of type[k]. The last one
- * has to ask for the lock that the first order's thread held.
+ * Whether the one's thread waits at no time at which the other's does, whatever the threads are. It asks for its lock again
+ * as a wait for a condition ends, so it had it when that began. Only after that the other's thread can have taken that lock,
+ * and it did so under the one that it asks for. But that one is held by the one's thread since before its wait.
  */
-static void go_on(struct search *search, size_t k)
+static bool is_kept_out(const struct single_pair *one, const struct single_pair *other)
 {
-    for (size_t i = 0; i < search->single->orders && ++search->steps < STEPS_MOST; i++) {
-        const struct single_order *order = &search->single->order[i];
-        const struct single_lock *next = asked(order);
-        if (!is_of(search, next, search->type[k]) || !held(order, search->serial[k - 1]))
+    const struct single_lock *kept = held(one, other->asked.serial);
+    return one->how == SINGLE_AS_A_WAIT_ENDS && other->under && other->held.serial == one->asked.serial && kept
+        && !kept->shared;
+}
+
+/* What keeps two of the circle's steps from meeting. One thread can't wait in two of them. */
+static void look_at_two(const struct search *search, struct alarm *alarm, const struct step *one, const struct step *other)
+{
+    if (!alarm->gate)
+        alarm->gate = gate_of(search, one->pair, other->pair);
+    if (alarm->apart == NOT_APART)
+        alarm->apart = apart_of(search, one, other);
+    if (alarm->apart == NOT_APART && (is_kept_out(one->pair, other->pair) || is_kept_out(other->pair, one->pair)))
+        alarm->apart = APART_BY_LOCK;
+    if (one->deed && other->deed && one->deed->thread == other->deed->thread) {
+        alarm->grade = GRADE_ONE_THREAD;
+        alarm->twice = one->deed->thread;
+    }
+}
+
+/* Whether what the one asks for as a reader is held by the other as a reader. */
+static bool is_among_readers(const struct single_pair *one, const struct single_pair *other)
+{
+    return one->asked.shared && other->held.shared;
+}
+
+/* What comes to be known of the circle by its newest step. */
+static void look_at_newest(const struct search *search, struct alarm *alarm, size_t newest)
+{
+    const struct step *step = &search->step[newest];
+    alarm->timed |= step->pair->how == SINGLE_FOR_A_TIME;
+    alarm->readers |= newest > 0 && is_among_readers(step[-1].pair, step->pair);
+    for (size_t i = 0; i < newest; i++)
+        look_at_two(search, alarm, &search->step[i], step);
+}
+
+/*
+ * Whether each step asks for its lock again as a wait for a condition ends. Then they never wait for one another, whatever
+ * their threads are: of these waits, look at the one that began last. Its thread had the lock then that it asks for. But
+ * the next thread of the circle had begun to wait by then, and holds that lock ever since.
+ */
+static bool all_end_waits(const struct search *search, size_t steps)
+{
+    for (size_t i = 0; i < steps; i++)
+        if (search->step[i].pair->how != SINGLE_AS_A_WAIT_ENDS)
+            return false;
+    return true;
+}
+
+/* The step's thread. A third one may stand for a further one: then it can't be one that is there. */
+static void add_thread(struct alarm *alarm, const struct step *step)
+{
+    long thread = step->deed ? step->deed->thread : step->pair->further;
+    size_t at = 0;
+    while (at < alarm->threads && alarm->thread[at] != thread)
+        at++;
+    if (at == sizeof alarm->thread / sizeof *alarm->thread || (at < alarm->threads && !step->deed))
+        alarm->others++;
+    else if (at == alarm->threads)
+        alarm->thread[alarm->threads++] = thread;
+}
+
+/* The circle is closed, by so many steps. */
+static void keep_if_worse(struct search *search, struct alarm alarm, size_t steps)
+{
+    alarm.readers |= is_among_readers(search->step[steps - 1].pair, search->step[0].pair);
+    if (all_end_waits(search, steps))
+        alarm.apart = APART_BY_WAITS;
+    if (search->best.grade != GRADE_NONE && !is_milder(&search->best, &alarm))
+        return;
+    alarm.steps = steps > search->types ? steps : search->types;
+    for (size_t i = steps; i-- > 0;)
+        add_thread(&alarm, &search->step[i]);
+    search->best = alarm;
+}
+
+static bool is_over(struct search *search, size_t work)
+{
+    search->steps += work;
+    search->is_cut |= search->steps > STEPS_MOST;
+    return search->is_cut || is_worst(search, &search->best);
+}
+
+static void go_on(struct search *search, const struct alarm *so_far, size_t steps, uint32_t node);
+
+/* One step more. What is as mild as the best by now comes to nothing worse. */
+static void add_step(struct search *search, const struct alarm *so_far, size_t steps, const struct single_edge *edge,
+    const struct single_deed *deed)
+{
+    struct alarm alarm = *so_far;
+    if (is_over(search, steps + 1))
+        return;
+    search->step[steps] = (struct step){edge->pair, deed};
+    look_at_newest(search, &alarm, steps);
+    if (search->best.grade != GRADE_NONE && !is_milder(&search->best, &alarm))
+        return;
+    if (search->distance[edge->to] == 0) {
+        keep_if_worse(search, alarm, steps + 1);
+        return;
+    }
+    search->is_taken[edge->to] = true;
+    go_on(search, &alarm, steps + 1, edge->to);
+    search->is_taken[edge->to] = false;
+}
+
+/* By each thread that made the pair. */
+static void add_edge(struct search *search, const struct alarm *so_far, size_t steps, const struct single_edge *edge)
+{
+    for (size_t i = 0; i < edge->pair->deeds; i++)
+        add_step(search, so_far, steps, edge, &edge->pair->deed[i]);
+    if (edge->pair->further)
+        add_step(search, so_far, steps, edge, NULL);
+}
+
+/* The circle has so many steps, the last of which asks for the lock of that node. */
+static void go_on(struct search *search, const struct alarm *so_far, size_t steps, uint32_t node)
+{
+    const struct single_graph *graph = &search->graph;
+    for (size_t i = graph->leaving[node]; i < graph->leaving[node + 1] && !is_over(search, 1); i++) {
+        const struct single_edge *edge = &graph->edge[i];
+        if (search->is_taken[edge->to])
             continue;
-        if (k + 1 == search->types ? next->serial != search->serial[k] : is_among(search->serial, search->types, next->serial))
-            continue;
-        search->order[k] = order;
-        if (k + 1 == search->types) {
-            keep_if_worse(search);
-        } else {
-            search->serial[k] = next->serial;
-            go_on(search, k + 1);
-            search->serial[k] = 0;
+        if (steps + 1 + search->distance[edge->to] > search->longest)
+            search->is_cut |= search->longest == CIRCLE_MOST;
+        else
+            add_edge(search, so_far, steps, edge);
+    }
+}
+
+/* How far each node is from that one, against the edges' direction. */
+static void measure(struct search *search, uint32_t node)
+{
+    const struct single_graph *graph = &search->graph;
+    search->reached[0] = node;
+    search->reaches = 1;
+    for (uint32_t at = 0; at < search->reaches; at++) {
+        uint32_t to = search->reached[at];
+        for (size_t i = graph->entering[to]; i < graph->entering[to + 1]; i++) {
+            uint32_t from = graph->edge[graph->entered[i]].from;
+            if (from == node || search->distance[from] != 0)
+                continue;
+            search->distance[from] = search->distance[to] + 1;
+            search->reached[search->reaches++] = from;
         }
     }
 }
 
-/* The report's own order: its thread holds a lock of the last type and asks for one of the first. */
-static void begin(struct search *search)
+static bool is_reports_own(const struct search *search, const struct single_edge *edge)
 {
-    size_t last = search->types - 1;
-    for (size_t i = 0; i < search->single->orders; i++) {
-        const struct single_order *order = &search->single->order[i];
-        if (!is_of(search, asked(order), search->type[0]))
-            continue;
-        for (size_t held_at = 0; held_at + 1 < order->locks; held_at++) {
-            const struct single_lock *lock = &order->lock[held_at];
-            if (!is_of(search, lock, search->type[last]) || lock->serial == asked(order)->serial)
-                continue;
-            memset(search->serial, 0, sizeof search->serial);
-            search->order[0] = order;
-            search->serial[0] = asked(order)->serial;
-            search->serial[last] = lock->serial;
-            go_on(search, 1);
-        }
-    }
+    return edge->pair->held.type == search->held && edge->pair->asked.type == search->asked;
 }
 
-/* Whether there may be orders of such locks that aren't kept. */
-static bool has_many(const struct search *search)
+/* Circles from that node on, by the report's own pairs: the shortest one of each pair, or all. */
+static void begin_at(struct search *search, uint32_t node, bool all)
 {
-    for (size_t i = 0; i < search->single->orders; i++)
-        if (is_unknown(&search->single->order[i]))
-            return true;
-    for (size_t i = 0; i < search->single->manys; i++) {
-        const struct single_order *many = &search->single->many[i];
-        if (is_unknown(many))
-            return true;
-        for (size_t k = 0; k < search->types; k++) {
-            if (!is_of(search, asked(many), search->type[k]))
-                continue;
-            for (size_t at = 0; at + 1 < many->locks; at++)
-                if (is_of(search, &many->lock[at], search->type[(k + search->types - 1) % search->types]))
-                    return true;
-        }
+    const struct single_graph *graph = &search->graph;
+    const struct alarm none = {.grade = GRADE_THREADS};
+    bool is_measured = false;
+    for (size_t i = graph->leaving[node]; i < graph->leaving[node + 1] && !is_over(search, 1); i++) {
+        const struct single_edge *edge = &graph->edge[i];
+        if (!is_reports_own(search, edge))
+            continue;
+        if (!is_measured)
+            measure(search, node);
+        is_measured = true;
+        search->longest = all ? CIRCLE_MOST : 1 + search->distance[edge->to];
+        if (1 + search->distance[edge->to] <= CIRCLE_MOST)
+            add_edge(search, &none, 0, edge);
+        else
+            search->is_cut = true;
     }
-    return false;
+    for (uint32_t i = 0; is_measured && i < search->reaches; i++)
+        search->distance[search->reached[i]] = 0;
+    search->steps += is_measured ? search->reaches : 0;
+}
+
+static void look(struct search *search)
+{
+    uint32_t nodes = search->graph.nodes;
+    search->distance = take((nodes + 1) * sizeof *search->distance);
+    search->reached = take((nodes + 1) * sizeof *search->reached);
+    search->is_taken = take((nodes + 1) * sizeof *search->is_taken);
+    for (int all = 0; all < 2; all++)
+        for (uint32_t node = 0; node < nodes; node++)
+            begin_at(search, node, all);
+    free(search->distance);
+    free(search->reached);
+    free(search->is_taken);
 }
 
 /* The types of the report's circle. False where it has none, or one that is too long. */
@@ -325,14 +331,105 @@ static bool read_types(struct search *search, const struct report *report)
     return search->types > 1 && search->types < TYPES_MOST;
 }
 
+/* Marks the types of that name. The answer is the first one's number, 0 where there is none. */
+static uint32_t mark(const struct single *single, const char *name, bool *marked)
+{
+    for (uint32_t number = 1; number < single->types; number++) {
+        const struct single_type *type = &single->type[number];
+        if (type->first == number && type->name && strcmp(type->name, name) == 0) {
+            marked[number] = true;
+            return number;
+        }
+    }
+    return 0;
+}
+
+/* Whether the lock was held, and not as a reader, whenever a pair of the graph was made. */
+static bool is_gate_of_all(const struct single_graph *graph, uint32_t serial)
+{
+    for (size_t i = 0; i < graph->edges; i++) {
+        const struct single_lock *lock = held(graph->edge[i].pair, serial);
+        if (!lock || lock->shared)
+            return false;
+    }
+    return true;
+}
+
+static bool has_one_gate(const struct single_graph *graph)
+{
+    const struct single_pair *first = graph->edges > 0 ? graph->edge[0].pair : NULL;
+    for (size_t i = 0; first && i < first->besides; i++)
+        if (is_gate_of_all(graph, first->beside[i].serial))
+            return true;
+    return false;
+}
+
+static bool are_by_one_thread(const struct single_graph *graph)
+{
+    for (size_t i = 0; i < graph->edges; i++)
+        if (!is_by_one_thread(graph->edge[i].pair) || graph->edge[i].pair->deed->thread != graph->edge[0].pair->deed->thread)
+            return false;
+    return true;
+}
+
+static bool are_all_readers(const struct single_graph *graph)
+{
+    for (size_t i = 0; i < graph->edges; i++)
+        if (!graph->edge[i].pair->held.shared || !graph->edge[i].pair->asked.shared)
+            return false;
+    return true;
+}
+
+static bool are_all_timed(const struct single_graph *graph)
+{
+    for (size_t i = 0; i < graph->edges; i++)
+        if (graph->edge[i].pair->how != SINGLE_FOR_A_TIME)
+            return false;
+    return true;
+}
+
+static void make_graph(struct search *search)
+{
+    bool *marked = take(search->single->types + 1);
+    for (size_t i = 0; i < search->types; i++)
+        mark(search->single, search->type[i], marked);
+    search->asked = mark(search->single, search->type[0], marked);
+    search->held = mark(search->single, search->type[search->types - 1], marked);
+    single_graph_make(&search->graph, search->single, marked);
+    search->most = are_by_one_thread(&search->graph) ? GRADE_ONE_THREAD : GRADE_THREADS;
+    search->least = has_one_gate(&search->graph) + are_all_readers(&search->graph) + are_all_timed(&search->graph);
+    free(marked);
+}
+
+/* What was found, unless something that wasn't looked at may be worse. */
+static struct alarm answer(const struct search *search, bool of_one_type)
+{
+    struct alarm alarm = search->best;
+    bool is_sure = !search->is_cut && !single_lacks_pairs(search->single);
+    if (!is_sure && (alarm.grade != GRADE_THREADS || words(&alarm) > 0))
+        alarm = (struct alarm){.grade = GRADE_UNKNOWN};
+    if (alarm.grade == GRADE_NONE)
+        alarm.grade = GRADE_TYPES;
+    alarm.of_one_type = of_one_type;
+    return alarm;
+}
+
 struct alarm alarm_of(const struct report *report, const struct notes *notes)
 {
-    struct search search = {.single = &notes->single, .lock = notes->lock, .locks = notes->locks};
-    if ((report->kind != REPORT_REVERSAL && report->kind != REPORT_DUPLICATE) || notes->single.orders == 0
-        || !read_types(&search, report))
-        return search.best;
-    begin(&search);
-    if (search.best.grade == GRADE_NONE)
-        search.best.grade = search.steps >= STEPS_MOST || has_many(&search) ? GRADE_UNKNOWN : GRADE_TYPES;
-    return search.best;
+    const struct alarm none = {.grade = GRADE_NONE};
+    struct search *search;
+    if ((report->kind != REPORT_REVERSAL && report->kind != REPORT_DUPLICATE) || notes->single.pairs == 0)
+        return none;
+    search = take(sizeof *search);
+    search->notes = notes;
+    search->single = &notes->single;
+    struct alarm alarm = none;
+    if (read_types(search, report)) {
+        make_graph(search);
+        look(search);
+        single_graph_end(&search->graph);
+        alarm = answer(search, report->kind == REPORT_DUPLICATE);
+    }
+    free(search);
+    return alarm;
 }

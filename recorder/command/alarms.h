@@ -14,18 +14,19 @@
 struct alarm {
     enum grade {
         GRADE_NONE,       /* the file tells of no single locks, or it is no report of an order */
-        GRADE_UNKNOWN,    /* there were more orders of such locks than are kept */
+        GRADE_UNKNOWN,    /* pairs of such locks may be missing, or there were too many circles of them to look at */
         GRADE_TYPES,      /* no single locks were taken both ways */
         GRADE_ONE_THREAD, /* single locks were, but two of the orders by one thread alone, which can't wait in both */
         GRADE_THREADS,    /* single locks were, each order by a thread of its own, as far as it is known */
     } grade;
-    /* The orders that are closest to a deadlock, without those that it doesn't need, and what keeps it away. */
-    const struct single_order *order[16];
-    size_t orders;
-    size_t steps;    /* of the circle of types */
-    size_t repeated; /* pairs of these orders by one thread */
-    long twice;      /* a thread that took two of the orders, and nobody else did; 0 for none */
-    const char *gate; /* a lock that two of them held besides; NULL where there is none */
+    bool of_one_type; /* the report is of two locks of one type */
+    /* The circle of locks that is closest to a deadlock, by its threads, and what keeps it away. */
+    long thread[16]; /* each once */
+    size_t threads;
+    size_t others;   /* threads of it of which nothing is known, or that have no room there */
+    size_t steps;    /* of the circle of types, or of the locks where that has more */
+    long twice;      /* a thread that took two of the orders; 0 for none */
+    const char *gate; /* a lock that two of them held each time; NULL where there is none */
     bool readers;     /* one waits for readers alone, as a reader */
     bool timed;       /* one was asked for with a time limit */
     enum apart {
@@ -51,6 +52,7 @@ char *alarm_text(const struct alarm *alarm);
 struct alarms_wanted {
     enum grade least, least_of_duplicates; /* GRADE_NONE: every report counts */
     bool not_gated, not_readers, not_timed, not_apart;
+    bool confirmed; /* those alone that hung in a steered run */
 };
 
 /* False where one of the words, which are parted by commas, isn't known. */

@@ -69,6 +69,15 @@ static void add_held(struct scene *scene, unsigned seat, const struct event *thr
     free(name);
 }
 
+/* Whether the seat has the lock as a reader. */
+static bool is_read_by(const struct seat *seat, unsigned lock)
+{
+    for (size_t i = 0; i < seat->count; i++)
+        if (seat->held[i].lock == lock)
+            return seat->held[i].shared;
+    return false;
+}
+
 /* ` seat N waits for "NAME" held by seat N`, as the verifier tells it. */
 static void add_wait(struct scene *scene, const char *told)
 {
@@ -82,7 +91,10 @@ static void add_wait(struct scene *scene, const char *told)
     char *label = thread_label(thread), *name = thread_name(thread_of(notes, next, notes->events));
     char *heading = say_text(" seat %u%s%s%s", seat, label, told + length, name);
     char *lock = copy_bytes(open + 1, (size_t)(close - open - 1));
-    add_line(scene, LINE_WAITS, seat, lock, heading, scene->holdings.seat[seat].asked_at)->next = next;
+    struct report_line *line = add_line(scene, LINE_WAITS, seat, lock, heading, scene->holdings.seat[seat].asked_at);
+    line->next = next;
+    const struct seat *holder = next <= SEATS_MOST ? &scene->holdings.seat[next] : NULL;
+    line->is_behind_readers = holder && is_read_by(holder, scene->holdings.seat[seat].asked);
     add_held(scene, seat, thread);
     free(lock);
     free(label);

@@ -11,11 +11,11 @@
 #include "memory.h"
 #include "report_text.h"
 
-enum { SECOND = 1000000, STATUS_MOST = 255 };
+enum { SECOND = 1000000, WATCHED_FOR = 100000, STATUS_MOST = 255 };
 
 bool deadlock_is_due(const struct deadlock *deadlock, long long now)
 {
-    return deadlock->circle && !deadlock->is_told && now - deadlock->since >= SECOND;
+    return deadlock->circle && !deadlock->is_told && now - deadlock->since >= deadlock->patience;
 }
 
 void deadlock_end(struct deadlock *deadlock)
@@ -58,27 +58,39 @@ static char *circles_of(struct process *process)
     return NULL;
 }
 
-/* Whether the thread came to ask for that lock of the order again and again. */
-static bool is_repeated(const struct single *single, const struct single_order *timed)
+/* Whether that thread came to ask for the lock again and again. */
+static bool is_repeated_by(const struct single *single, uint32_t lock, long thread)
 {
-    for (size_t i = 0; i < single->orders; i++) {
-        const struct single_order *order = &single->order[i];
-        const struct single_lock *lock = &order->lock[order->locks - 1];
-        if (lock->repeated && order->thread == timed->thread && lock->serial == timed->lock[timed->locks - 1].serial)
-            return true;
+    for (size_t i = 0; i < single->pairs; i++) {
+        const struct single_pair *pair = &single->pair[i];
+        if (pair->how != SINGLE_REPEATEDLY || pair->asked.serial != lock)
+            continue;
+        for (size_t at = 0; at < pair->deeds; at++)
+            if (pair->deed[at].thread == thread)
+                return true;
     }
     return false;
+}
+
+/* Whether each thread that asked so with a time limit came to do it again and again. Of further ones it isn't known. */
+static bool is_repeated(const struct single *single, const struct single_pair *timed)
+{
+    for (size_t i = 0; i < timed->deeds; i++)
+        if (!is_repeated_by(single, timed->asked.serial, timed->deed[i].thread))
+            return false;
+    return !timed->further;
 }
 
 /* Whether a thread of a circle may wait for the lock with a time limit. */
 static bool waits_for_a_time(const struct process *process, const struct report_line *line)
 {
     const struct notes *notes = &process->notes;
-    for (size_t i = 0; i < notes->single.orders; i++) {
-        const struct single_order *order = &notes->single.order[i];
-        const struct single_lock *lock = &order->lock[order->locks - 1];
-        if (lock->timed && !is_repeated(&notes->single, order) && (lock->number == 0 || lock->number > notes->locks
-                || strcmp(notes->lock[lock->number - 1].name, line->name) == 0))
+    for (size_t i = 0; i < notes->single.pairs; i++) {
+        const struct single_pair *pair = &notes->single.pair[i];
+        const struct single_lock *lock = &pair->asked;
+        bool is_it = lock->number == 0 || lock->number > notes->locks
+            || strcmp(notes->lock[lock->number - 1].name, line->name) == 0;
+        if (pair->how == SINGLE_FOR_A_TIME && is_it && !is_repeated(&notes->single, pair))
             return true;
     }
     return false;
@@ -143,10 +155,12 @@ void deadlock_look(struct process *process, struct deadlock *deadlock, long long
     }
     if (!deadlock->circle || strcmp(deadlock->circle, circle) != 0) {
         deadlock_end(deadlock);
-        *deadlock = (struct deadlock){circle, now, false, false};
+        *deadlock = (struct deadlock){circle, now, process->run->watched ? WATCHED_FOR : SECOND, false, false};
         return;
     }
-    if (deadlock_is_due(deadlock, now)) {
+    if (deadlock_is_due(deadlock, now) && process->run->watched) {
+        deadlock->is_told = deadlock->is_over = steered_hangs(process, deadlock->since, now);
+    } else if (deadlock_is_due(deadlock, now)) {
         deadlock->is_told = true;
         tell_circle(process, circle);
     }

@@ -10,6 +10,7 @@
 struct deadlock {
     char *circle;    /* as it would be told; NULL where there is none */
     long long since; /* when it was seen first, in microseconds */
+    long long patience; /* for so long it has to stand */
     bool is_told;
     bool is_over;    /* what --on-deadlock says was done, or nothing is to be */
 };

@@ -16,7 +16,6 @@
 struct seats {
     long held[SEAT_MOST];
     bool is_pending[SEAT_MOST];
-    const char *told; /* where the stream ended when a report of it was told first, else where it ends */
 };
 
 /* The list with room for that number, and the new ones in it zero. */
@@ -298,7 +297,6 @@ static bool read_call(struct declared *declared, const struct line *line, struct
     bool releases = field_is(line, 0, WORD_UNLOCK);
     if (!asks && !gets && !tries && !releases && !field_is(line, 0, WORD_GIVEUP))
         return false;
-    declared->has_tries |= tries && line->at < seats->told;
     if (!read_seat(declared, line, &seat))
         return true;
     if (asks || tries)
@@ -364,7 +362,6 @@ void declared_read(struct declared *declared, const struct stream *stream, struc
     struct seats *seats = take(sizeof *seats);
     const char *at = stream->bytes, *end = stream->bytes + stream->length;
     *declared = (struct declared){.symbols = symbols, .texts = texts_new(), .columns = columns_new()};
-    seats->told = stream->told > 0 && stream->told < stream->length ? stream->bytes + stream->told : end;
     while (line_next(&line, &at, end)) {
         declared->lines++;
         read_line(declared, &line, seats);

@@ -80,7 +80,6 @@ struct declared {
     unsigned long lines, pending;
     uint32_t seats;
     unsigned long held; /* the most locks of one seat at once */
-    bool has_tries;     /* a lock was tried, before a report was told */
     bool is_odd;        /* a number in it can't be one */
     struct symbols *symbols;
     struct texts *texts;

@@ -153,6 +153,9 @@ static void gather(struct findings *findings, const struct found *found, const s
 
 void findings_gather(struct findings *findings)
 {
+    if (findings->is_gathered)
+        return;
+    findings->is_gathered = true;
     for (size_t i = 0; i < findings->count; i++) {
         struct found *found = &findings->found[i];
         found->reports.notes = &found->notes;
@@ -204,6 +207,7 @@ void findings_end(struct findings *findings)
     for (size_t i = 0; i < findings->findings; i++) {
         free(findings->finding[i].process);
         free(findings->finding[i].single);
+        confirmed_end(findings->finding[i].confirmed);
     }
     free(findings->finding);
     free(findings->found);

@@ -9,6 +9,7 @@
 #include <time.h>
 
 #include "alarms.h"
+#include "hang.h"
 #include "notes.h"
 #include "orders.h"
 #include "report.h"
@@ -35,6 +36,7 @@ struct finding {
     struct alarm alarm;        /* how much it is to be feared: the worst of what the processes say */
     char *single;              /* what is said of that; an empty text where there is nothing */
     bool counts;               /* for the status of `record`, by --alarms */
+    struct confirmed *confirmed; /* what came of steered runs; NULL where none was to be made */
 };
 
 struct findings {
@@ -52,6 +54,7 @@ struct findings {
     char **told;           /* what was told besides the reports: lines without `record: ` */
     size_t tolds, told_room;
     char *summary;         /* the last of them */
+    bool is_gathered;      /* the list is there */
     struct finding *finding;
     size_t findings, finding_room;
 };
@@ -62,7 +65,7 @@ struct found *findings_add(struct findings *findings, const char *program, long 
 /* A line that was told, of that process; 0 where it is of the whole run. What it begins with, `record: `, is left out. */
 void findings_tell(struct findings *findings, long process, const char *line);
 
-/* When all are there: makes the list of findings, equal ones as one. Those that are silenced come last. */
+/* When all are there: makes the list of findings, equal ones as one, once. Those that are silenced come last. */
 void findings_gather(struct findings *findings);
 
 /* The threads that are known of the process, each once: a list of one's own. */

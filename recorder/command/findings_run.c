@@ -4,17 +4,19 @@
 #include <stdlib.h>
 #include <string.h>
 
+#include "confirm.h"
 #include "errors.h"
 #include "html.h"
 #include "json.h"
 #include "memory.h"
+#include "plan.h"
 #include "replay.h"
 #include "sarif.h"
 #include "written.h"
 
 bool findings_are_wanted(const struct settings *settings)
 {
-    return is_asked(settings->html) || is_asked(settings->sarif) || is_asked(settings->json);
+    return is_asked(settings->html) || is_asked(settings->sarif) || is_asked(settings->json) || confirm_is_wanted(settings);
 }
 
 /* Lines that are told, each by itself. */
@@ -99,6 +101,8 @@ void findings_take(struct process *process)
     struct found *found = findings_add(&run->findings, process->name, process->recording->process);
     if (process->resolved && trace_is_there(process, "its orders aren't known"))
         orders_read(process, &found->orders);
+    if (process->is_traced && confirm_is_wanted(&run->settings))
+        plan_finds_first_locks(process);
     found->notes = process->notes;
     found->reports = process->reports;
     process->notes = (struct notes){0};

@@ -13,7 +13,7 @@
 #include "version.h"
 
 /* A stream of more bytes is left until the end; so many times as long as a look took nothing is looked at. */
-enum { BYTES_MOST = 1 << 22, PAUSE = 4 };
+enum { BYTES_MOST = 1 << 25, PAUSE = 4 };
 
 /* A report that was told, and what was said of its single locks. */
 struct told_report {
@@ -26,7 +26,6 @@ struct followed {
     size_t length;
     struct told_report *told;
     size_t tolds, told_room;
-    size_t told_at; /* the length with which the first of them was told */
     struct deadlock deadlock;
 };
 
@@ -51,14 +50,7 @@ static const struct followed *known(const struct run *run, const char *name)
 void follow_keeps(struct run *run, const char *recording, char *report, char *alarm)
 {
     struct followed *followed = followed_of(run, recording);
-    if (followed->tolds == 0)
-        followed->told_at = followed->length;
     ADD(followed->told, followed->tolds, followed->told_room) = (struct told_report){report, alarm};
-}
-
-size_t follow_told_at(const struct run *run, const char *recording)
-{
-    return known(run, recording)->told_at;
 }
 
 const char *follow_alarm(const struct run *run, const char *recording, const char *report)
@@ -109,7 +101,8 @@ static void tell_of(struct process *process, struct followed *followed)
     followed->length = process->stream.length;
     process->name = process->stream.program ? process->stream.program : "";
     replay(process);
-    tell_new_reports(process);
+    if (!process->run->watched)
+        tell_new_reports(process);
     deadlock_look(process, &followed->deadlock, microseconds());
     process_end(process);
 }

@@ -15,9 +15,6 @@ void follow(struct run *run);
 /* Keeps that the report was told, and what was said of its single locks: texts of one's own. */
 void follow_keeps(struct run *run, const char *recording, char *report, char *alarm);
 
-/* How long the stream was when a report of it was told first; 0 where none was. */
-size_t follow_told_at(const struct run *run, const char *recording);
-
 /* What was said of the single locks of the report of that text; NULL where it wasn't told. */
 const char *follow_alarm(const struct run *run, const char *recording, const char *report);
 

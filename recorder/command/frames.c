@@ -63,6 +63,38 @@ static void add_stack(struct gathering *gathering, const struct stack *stack)
         add(gathering, NULL, gathering->told);
 }
 
+static struct code_place code_place_of(struct sites *sites, const struct place *place)
+{
+    const struct declared *declared = sites->declared;
+    if (place->kind == PLACE_SITE) {
+        const char *site = place->site->frame[0].site, *colon = strrchr(site, ':');
+        return (struct code_place){
+            texts_copy(sites->texts, site, (size_t)(colon - site)), NULL, strtoul(colon + 1, NULL, 10), true};
+    }
+    const struct object *object = object_of(declared, place->object);
+    if (place->kind != PLACE_CALL || !object->path)
+        return (struct code_place){0};
+    const char *build_id = object->binary ? binary_file(object->binary)->build_id : NULL;
+    return (struct code_place){texts_copy(sites->texts, object->path, strlen(object->path)),
+        build_id ? texts_copy(sites->texts, build_id, strlen(build_id)) : NULL, place->offset, false};
+}
+
+/* The calls up to the first one that can't be found again. */
+static void add_calls(struct frames *frames, struct sites *sites, const uint32_t *number, size_t count)
+{
+    const struct declared *declared = sites->declared;
+    for (size_t i = 0; i < count && frames->calls < CALLS_MOST; i++) {
+        const struct place *place = place_of(declared, number[i]);
+        struct call call = {.code = code_place_of(sites, place)};
+        if (place->kind == PLACE_PAIR)
+            call = (struct call){code_place_of(sites, place_of(declared, place->library)),
+                code_place_of(sites, place_of(declared, place->rest))};
+        if (!call.code.object || (place->kind == PLACE_PAIR && !call.rest.object))
+            return;
+        frames->call[frames->calls++] = call;
+    }
+}
+
 void frames_add(struct notes *notes, struct sites *sites, uint32_t place, uint32_t stack, size_t most)
 {
     const struct declared *declared = sites->declared;
@@ -75,5 +107,10 @@ void frames_add(struct notes *notes, struct sites *sites, uint32_t place, uint32
     if (gathering.count > 0)
         memcpy(kept, gathering.frame, gathering.count * sizeof *kept);
     free(gathering.frame);
-    ADD(notes->frames, notes->framed, notes->frames_room) = (struct frames){kept, gathering.count};
+    struct frames frames = {.frame = kept, .count = gathering.count};
+    if (stack > 0 && stack < sites->declared->stacks)
+        add_calls(&frames, sites, sites->declared->stack[stack].place, sites->declared->stack[stack].count);
+    else
+        add_calls(&frames, sites, &place, 1);
+    ADD(notes->frames, notes->framed, notes->frames_room) = frames;
 }

@@ -118,9 +118,11 @@ static void put_section(struct html *html, enum section section, const char *id,
         put(html, "<p>Lines of <code>%s</code> allow these.</p>\n", findings->ignore);
     if (count == 0)
         put_nothing(html);
-    for (size_t i = 0; i < findings->findings; i++)
-        if (section_of(&findings->finding[i]) == section)
-            put_card(html, i);
+    /* What is confirmed comes first. */
+    for (int turn = 1; turn >= 0; turn--)
+        for (size_t i = 0; i < findings->findings; i++)
+            if (section_of(&findings->finding[i]) == section && is_confirmed(findings->finding[i].confirmed) == turn)
+                put_card(html, i);
     put(html, "</section>\n");
 }
 

@@ -65,6 +65,8 @@ static void put_head(const struct html *html, const struct finding *finding, siz
     put_facts(html, finding);
     if (*finding->single)
         put(html, "<p class='single%s'>%s</p>\n", finding->alarm.grade == GRADE_THREADS ? " bad" : "", finding->single);
+    if (finding->confirmed)
+        put(html, "<p class='single%s'>%s</p>\n", is_confirmed(finding->confirmed) ? " bad" : "", finding->confirmed->text);
     put(html, "</header>\n");
     free(what);
 }

@@ -48,8 +48,6 @@ void inside_environment(const struct options *options)
     setenv("WITNESS", "1", 1);
     setenv("WITNESS_ON_REPORT", options->on_report ? options->on_report : "tell", 1);
     setenv("WITNESS_LOG", "/dev/null", 1);
-    if (options->settings.all_held)
-        setenv("WITNESS_PROFILE", "all", 1);
 }
 
 /* The library is the program's, not gdb's. */

@@ -50,11 +50,54 @@ static void write_callers(struct objects *to, const struct frames *frames)
     object_close(to, '[');
 }
 
+static void write_code(struct objects *to, const struct code_place *code)
+{
+    object_text(to, "object", code->object);
+    object_text(to, "build_id", code->build_id);
+    object_number(to, "offset", (long long)code->offset);
+    object_truth(to, "named", code->is_named);
+}
+
+/* The calls by which a later run finds the place again. */
+static void write_calls(struct objects *to, const struct frames *frames)
+{
+    object_open(to, "calls", '[');
+    for (size_t i = 0; frames && i < frames->calls; i++) {
+        object_open(to, NULL, '{');
+        write_code(to, &frames->call[i].code);
+        if (frames->call[i].rest.object) {
+            object_open(to, "rest", '{');
+            write_code(to, &frames->call[i].rest);
+            object_close(to, '{');
+        } else {
+            object_text(to, "rest", NULL);
+        }
+        object_close(to, '{');
+    }
+    object_close(to, '[');
+}
+
 static void write_where(struct objects *to, const struct report_line *line)
 {
     write_site(to, line->site);
     write_thread(to, "thread", line->thread, line->known);
     write_callers(to, line->frames);
+    write_calls(to, line->frames);
+    object_number(to, "at", (long long)line->at);
+}
+
+/* Where the first lock of a step was taken; null where that isn't known. */
+static void write_taken(struct objects *to, const struct notes *notes, size_t number)
+{
+    const struct spot *spot = number > 0 && number <= notes->spots ? &notes->spot[number - 1] : NULL;
+    if (!spot) {
+        object_text(to, "taken", NULL);
+        return;
+    }
+    object_open(to, "taken", '{');
+    write_site(to, spot->site);
+    write_calls(to, spot->frames > 0 && spot->frames <= notes->framed ? &notes->frames[spot->frames - 1] : NULL);
+    object_close(to, '{');
 }
 
 static void write_lock(struct objects *to, const char *name, const struct report_line *line)
@@ -84,7 +127,7 @@ static void write_locks(struct objects *to, const struct report *report)
         object_text(to, "asked", NULL);
 }
 
-static void write_steps(struct objects *to, const struct report *report)
+static void write_steps(struct objects *to, const struct report *report, const struct notes *notes)
 {
     object_open(to, "established", '[');
     for (size_t i = 0; i < report->lines; i++) {
@@ -95,6 +138,7 @@ static void write_steps(struct objects *to, const struct report *report)
         object_text(to, "from", line->type);
         object_text(to, "to", line->other);
         write_where(to, line);
+        write_taken(to, notes, line->held_spot);
         object_close(to, '{');
     }
     object_close(to, '[');
@@ -176,8 +220,39 @@ static void write_single(struct objects *to, const struct finding *finding)
     object_close(to, '{');
 }
 
+/* What came of steered runs; null where none was to be made. */
+static void write_confirmed(struct objects *to, const struct confirmed *confirmed)
+{
+    if (!confirmed) {
+        object_text(to, "confirmed", NULL);
+        return;
+    }
+    object_open(to, "confirmed", '{');
+    object_number(to, "runs", confirmed->runs);
+    if (confirmed->run)
+        object_number(to, "run", confirmed->run);
+    else
+        object_text(to, "run", NULL);
+    object_seconds(to, "seconds", confirmed->run ? confirmed->hang.seconds : 0);
+    object_open(to, "waits", '[');
+    for (size_t i = 0; confirmed->run && i < confirmed->hang.threads; i++) {
+        const struct hung_thread *thread = &confirmed->hang.thread[i];
+        object_open(to, NULL, '{');
+        object_number(to, "thread", thread->thread);
+        object_text(to, "took", thread->took);
+        object_text(to, "took_at", thread->took_at);
+        object_text(to, "waits_for", thread->wants);
+        object_text(to, "waits_at", thread->wants_at);
+        object_close(to, '{');
+    }
+    object_close(to, '[');
+    object_text(to, "text", confirmed->text);
+    object_close(to, '{');
+}
+
 static void write_report(struct objects *to, const struct finding *finding)
 {
+    const struct notes *notes = finding->is_silenced ? &finding->found->silenced_notes : &finding->found->notes;
     const char *type[TYPES_SHOWN];
     size_t types = report_types(finding->report, type, TYPES_SHOWN);
     object_open(to, NULL, '{');
@@ -192,12 +267,13 @@ static void write_report(struct objects *to, const struct finding *finding)
     object_text(to, "silence", finding->report->silence);
     object_truth(to, "counts", finding->counts);
     write_single(to, finding);
+    write_confirmed(to, finding->confirmed);
     object_open(to, "types", '[');
     for (size_t i = 0; i < types; i++)
         object_text(to, NULL, type[i]);
     object_close(to, '[');
     write_locks(to, finding->report);
-    write_steps(to, finding->report);
+    write_steps(to, finding->report, notes);
     write_waits(to, finding->report);
     write_error(to, finding->report);
     write_words(to, finding->report);

@@ -39,7 +39,6 @@ bool kept_write(const struct settings *settings, const char *work)
     put(file, "log", settings->log);
     put(file, "suppressions", settings->suppressions ? "yes" : "");
     put(file, "graph", settings->graph);
-    put(file, "profile", settings->all_held ? "all" : "");
     put(file, "judge", settings->judge ? "yes" : "");
     fprintf(file, "frames %d\n", settings->frames);
     put(file, "skip", settings->skip);
@@ -79,7 +78,7 @@ static void take_value(const char **setting, bool wanted, const char *line, cons
 void kept_read(struct settings *settings, const char *records)
 {
     char *path = say_text("%s/../settings", records), *line = NULL;
-    const char *profile = NULL, *ignore = NULL, *skip = NULL;
+    const char *ignore = NULL, *skip = NULL;
     size_t room = 0;
     FILE *file = fopen(path, "re");
     free(path);
@@ -90,16 +89,13 @@ void kept_read(struct settings *settings, const char *records)
         take_value(&settings->program, true, line, "program");
         take_value(&ignore, !is_asked(settings->ignore) && !ignore, line, "ignore");
         take_value(&skip, !is_asked(settings->skip) && !skip, line, "skip");
-        take_value(&profile, !profile, line, "profile");
     }
     free(line);
     fclose(file);
-    settings->all_held |= profile != NULL;
     if (skip)
         settings->skip = skip;
     /* The file was named from where the program was run. */
     if (ignore)
         settings->ignore = *ignore == '/' ? copy(ignore) : say_text("%s/%s", settings->directory, ignore);
-    free((char *)profile);
     free((char *)ignore);
 }

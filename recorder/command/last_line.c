@@ -2,6 +2,7 @@
 #include <stdlib.h>
 #include <string.h>
 
+#include "confirm.h"
 #include "going.h"
 #include "learn.h"
 #include "memory.h"
@@ -76,12 +77,14 @@ static void tell_reported(struct run *run, const char *so_far, const char *end)
 {
     char *reports = counted(run->reports, "report", "s"), *circles = counted(run->circles, "circle", "s");
     char *processes = counted(run->shown, "process", "es"), *errors = counted(run->errors, "error", "s");
+    char *confirmed = confirm_is_wanted(&run->settings) ? say_text(", %lu confirmed", run->confirmed) : copy("");
     if (*end)
         say(&run->output, "%s", end);
     if (run->errors)
-        say(&run->output, "%s%s, %s, %s, %s", so_far, reports, circles, errors, processes);
+        say(&run->output, "%s%s%s, %s, %s, %s", so_far, reports, confirmed, circles, errors, processes);
     else
-        say(&run->output, "%s%s, %s, %s", so_far, reports, circles, processes);
+        say(&run->output, "%s%s%s, %s, %s", so_far, reports, confirmed, circles, processes);
+    free(confirmed);
     free(reports);
     free(circles);
     free(processes);

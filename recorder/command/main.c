@@ -13,6 +13,7 @@
 #include <unistd.h>
 
 #include "clean.h"
+#include "confirm_from.h"
 #include "files.h"
 #include "inside.h"
 #include "interrupts.h"
@@ -28,7 +29,9 @@
 #include "print_trace.h"
 #include "replayer.h"
 #include "show.h"
+#include "steered.h"
 #include "usage.h"
+#include "workplace.h"
 
 /* One at a time: what replays may have to be built first. Where the folder is another user's, there is no waiting. */
 static int lock(const char *built)
@@ -60,6 +63,43 @@ static time_t changed_at(const char *program)
     return time;
 }
 
+/* What is loaded before the program's libraries, a text of one's own; NULL where the program can't load it. */
+static char *preload_of(const struct options *options, const char *built, const struct misfit *misfit)
+{
+    if (misfit->unloadable)
+        return NULL;
+    char *recorder = inside_is_wanted(options) ? inside_library(options->here) : say_text("%s/recorder.so", built);
+    if (inside_is_wanted(options))
+        inside_environment(options);
+    if (!options->blocks)
+        return recorder;
+    char *preload = say_text("%s/blocks.so:%s", built, recorder);
+    free(recorder);
+    return preload;
+}
+
+/* Runs the program by the reports of an earlier run alone. */
+static int run_again(struct options *options, const char *built, const char *work)
+{
+    struct settings *settings = &options->settings;
+    check_replayer(settings, built);
+    char *records = prepare_records(settings, work);
+    struct misfit misfit = misfit_of(*options->program);
+    char *preload = preload_of(options, built, &misfit);
+    struct again again = {options, preload, options->program};
+    settings->again = &again;
+    prepare_lets_go();
+    interrupts_leave();
+    workplace_begin(work);
+    struct run *telling = show_begins(settings, work, records);
+    int status = confirm_from(telling);
+    show_leaves(telling);
+    workplace_end();
+    free(preload);
+    free(records);
+    return status;
+}
+
 /* Runs the program, and tells of it. */
 static int run(struct options *options, const char *built, const char *work)
 {
@@ -70,29 +110,22 @@ static int run(struct options *options, const char *built, const char *work)
     settings->misfit = misfit.why;
     settings->built = changed_at(*options->program);
     prepare_environment(options, records);
+    if (settings->noise)
+        prepare_noise(options, records);
     if (!kept_write(settings, work))
         fail("there is no room for a recording in %s", file_temporary());
-    char *preload = NULL;
+    char *preload = preload_of(options, built, &misfit);
     char **words = options->program;
-    if (inside_is_wanted(options) && !misfit.unloadable) {
-        preload = inside_library(options->here);
-        inside_environment(options);
-    } else if (!misfit.unloadable) {
-        preload = say_text("%s/recorder.so", built);
-    }
-    if (options->blocks && preload) {
-        char *recorder = preload;
-        preload = say_text("%s/blocks.so:%s", built, recorder);
-        free(recorder);
-    }
     if (options->gdb)
         words = inside_debugger(options->here, preload ? preload : "", words);
+    struct again again = {options, preload, words};
+    settings->again = &again;
     struct run *telling = show_begins(settings, work, records);
     struct ending ending = launch(options->gdb ? NULL : preload, words, telling, !settings->quiet);
-    free(preload);
     prepare_lets_go();
     prepare_hands_over();
     int status = show_ends(telling, &ending);
+    free(preload);
     free(records);
     return status;
 }
@@ -141,6 +174,8 @@ int main(int count, char **words)
     interrupts_catch();
     if (!work)
         work = prepare_work();
+    if (!options.target && options.settings.confirm_from)
+        return run_again(&options, built, work);
     if (!options.target)
         return run(&options, built, work);
     check_replayer(&options.settings, NULL);

@@ -18,10 +18,26 @@ struct frame {
     const char *site;
 };
 
-/* A stack, innermost frame first. */
+/* Where a call is in an object's file; or the file and line of a place by name. */
+struct code_place {
+    const char *object;   /* NULL of none */
+    const char *build_id; /* NULL where the file has none */
+    uint64_t offset;
+    bool is_named;
+};
+
+/* A place as it is found again in a later run. Of one that stands for two the library's function, and the rest. */
+struct call {
+    struct code_place code, rest;
+};
+enum { CALLS_MOST = 4 };
+
+/* A stack, innermost frame first; and the calls that it comes from, without what was inlined. */
 struct frames {
     struct frame *frame;
     size_t count;
+    struct call call[CALLS_MOST];
+    size_t calls;
 };
 
 /* What `@:NUMBER` stands for as a place of the trace; numbers are from 1 on. Such places are written where stacks are shown. */
@@ -30,6 +46,7 @@ struct spot {
     const char *told; /* what a report's text has in its place; NULL where that is the site */
     uint32_t frames; /* a number of notes.frames, from 1 on */
     long thread;     /* as the kernel counts threads; 0 where it isn't known */
+    unsigned long at; /* in milliseconds, when it was written first */
 };
 
 /* What was read beside calls, in the order of the file. */
@@ -40,6 +57,7 @@ struct event {
         EVENT_FOREIGN, /* the lock was released by a thread that didn't hold it */
         EVENT_ANSWER,  /* it was asked which mutexes are held: up to the next answer follow */
         EVENT_HOLDER,  /* those that are */
+        EVENT_OWNER,   /* the seat waits for the lock, which itself names that thread as its holder */
         EVENT_ERROR,   /* in the use of the lock: `what` says which */
     } kind;
     unsigned seat, lock; /* the lock's number in the trace */
@@ -48,7 +66,8 @@ struct event {
     const char *name;    /* of the thread, or of the lock; NULL where there is none */
     const char *maker;   /* the function that made the thread; NULL where that isn't known */
     const char *site;    /* where; NULL where that isn't known */
-    bool is_over;        /* of a thread that waited for itself: another one has released the lock since */
+    /* Of a thread that waited for itself: another one has released the lock since. Of an owner: it is of an earlier wait. */
+    bool is_over;
 };
 
 /* What a type is called besides. */
@@ -85,7 +104,7 @@ struct notes {
     struct map cut;         /* names that are too long for a trace, as it has them: numbers in the list, from 1 on */
     const char **whole;
     size_t wholes, whole_room;
-    struct single single;   /* the orders of single locks */
+    struct single single;   /* the pairs of single locks */
     unsigned long pending;  /* requests that never ended */
     bool has_shared;        /* a lock may be taken by other processes, too */
     void *texts;            /* what the texts stand in */

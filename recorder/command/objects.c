@@ -53,6 +53,12 @@ void object_number(struct objects *objects, const char *name, long long number)
     fprintf(objects->to, "%lld", number);
 }
 
+void object_seconds(struct objects *objects, const char *name, double seconds)
+{
+    begin_value(objects, name);
+    fprintf(objects->to, "%.3f", seconds);
+}
+
 void object_truth(struct objects *objects, const char *name, bool truth)
 {
     begin_value(objects, name);

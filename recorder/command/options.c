@@ -6,6 +6,7 @@
 #include <unistd.h>
 
 #include "alarms.h"
+#include "confirm.h"
 #include "deadlock.h"
 #include "files.h"
 #include "graph.h"
@@ -29,12 +30,6 @@ static int number_up_to(const char *word, int most)
 static void take_keep(struct options *options, const char *word)
 {
     options->settings.keep = word;
-}
-
-static void take_full(struct options *options, const char *word)
-{
-    (void)word;
-    options->full = true;
 }
 
 static void take_depth(struct options *options, const char *word)
@@ -160,13 +155,6 @@ static void take_suppressions(struct options *options, const char *word)
     options->settings.suppressions = true;
 }
 
-static void take_profile(struct options *options, const char *word)
-{
-    if (strcmp(word, "all") != 0 && strcmp(word, "plain") != 0)
-        refuse("--profile is all or plain, not %s", word);
-    options->settings.all_held = strcmp(word, "all") == 0;
-}
-
 static void take_judge(struct options *options, const char *word)
 {
     (void)word;
@@ -177,8 +165,9 @@ static void take_alarms(struct options *options, const char *word)
 {
     struct alarms_wanted wanted = {0};
     if (!alarms_words(word, &wanted))
-        refuse("--alarms takes all, locks or threads, and gate, readers, timed and apart, by commas, not %s", word);
+        refuse("--alarms takes all, locks or threads, and gate, readers, timed, apart and confirmed, by commas, not %s", word);
     options->settings.alarms = word;
+    options->counts_confirmed = wanted.confirmed;
 }
 
 static void take_deadlock(struct options *options, const char *word)
@@ -187,6 +176,37 @@ static void take_deadlock(struct options *options, const char *word)
     if (!deadlock_word(word, &status))
         refuse("--on-deadlock is tell, kill or exit=N, where N is 1 to 255, not %s", word);
     options->settings.on_deadlock = word;
+}
+
+static void take_confirm(struct options *options, const char *word)
+{
+    options->settings.confirm = word ? number_up_to(word, 100) : CONFIRM_RUNS;
+    if (options->settings.confirm < 0)
+        refuse("--confirm is 1 to 100 runs for each report, not %s", word);
+}
+
+static void take_confirm_time(struct options *options, const char *word)
+{
+    options->settings.confirm_seconds = number_up_to(word, 9999);
+    if (options->settings.confirm_seconds < 0)
+        refuse("--confirm-time is 1 to 9999 seconds, not %s", word);
+}
+
+static void take_confirm_from(struct options *options, const char *word)
+{
+    options->settings.confirm_from = *word ? word : NULL;
+}
+
+static void take_before(struct options *options, const char *word)
+{
+    options->settings.before = *word ? word : NULL;
+}
+
+static void take_noise(struct options *options, const char *word)
+{
+    options->settings.noise = word ? number_up_to(word, 1000) : CONFIRM_NOISE_MS;
+    if (options->settings.noise < 0)
+        refuse("--noise is 1 to 1000 milliseconds, not %s", word);
 }
 
 static void take_on_report(struct options *options, const char *word)
@@ -239,11 +259,11 @@ static void take_help(struct options *options, const char *word)
 
 static const struct option {
     const char *name;
-    enum { ALONE, WORD, OUTPUT } after; /* what stands after it; OUTPUT is a file that is written */
+    /* What stands after it; OUTPUT is a file that is written, and MAYBE a word that stands after `=` or not at all. */
+    enum { ALONE, WORD, OUTPUT, MAYBE } after;
     void (*take)(struct options *options, const char *word);
 } known[] = {
     {"-o", OUTPUT, take_keep},
-    {"--full", ALONE, take_full},
     {"--depth", WORD, take_depth},
     {"--frames", WORD, take_frames},
     {"--semaphores", ALONE, take_semaphores},
@@ -263,9 +283,13 @@ static const struct option {
     {"--json", OUTPUT, take_json},
     {"--log-file", OUTPUT, take_log},
     {"--gen-suppressions", ALONE, take_suppressions},
-    {"--profile", WORD, take_profile},
     {"--judge", ALONE, take_judge},
     {"--alarms", WORD, take_alarms},
+    {"--confirm", MAYBE, take_confirm},
+    {"--confirm-time", WORD, take_confirm_time},
+    {"--confirm-from", WORD, take_confirm_from},
+    {"--before", WORD, take_before},
+    {"--noise", MAYBE, take_noise},
     {"--errors", WORD, take_errors},
     {"--on-deadlock", WORD, take_deadlock},
     {"--on-report", WORD, take_on_report},
@@ -277,11 +301,29 @@ static const struct option {
     {"--help", ALONE, take_help},
 };
 
+/* Options of earlier versions, and what stands in their place. */
+static const struct {
+    const char *name, *instead;
+} gone[] = {
+    {"--full", "what is left out changes no verdict"},
+    {"--profile", "a request is compared with all locks that its thread holds, always"},
+};
+
+/* Whether the word is that option, and what stands after its `=`. */
+static bool is_option(const struct option *option, const char *word)
+{
+    size_t length = strlen(option->name);
+    return strncmp(option->name, word, length) == 0 && (!word[length] || (option->after == MAYBE && word[length] == '='));
+}
+
 static const struct option *option_of(const char *word)
 {
     for (size_t i = 0; i < sizeof known / sizeof *known; i++)
-        if (strcmp(known[i].name, word) == 0)
+        if (is_option(&known[i], word))
             return &known[i];
+    for (size_t i = 0; i < sizeof gone / sizeof *gone; i++)
+        if (strcmp(gone[i].name, word) == 0)
+            refuse("%s is gone: %s", word, gone[i].instead);
     refuse("there is no option %s", word);
 }
 
@@ -292,8 +334,9 @@ static char **read_options(struct options *options, char **words)
         if (strcmp(*words, "--") == 0)
             return words + 1;
         const struct option *option = option_of(*words);
-        if (option->after == ALONE) {
-            option->take(options, NULL);
+        if (option->after == ALONE || option->after == MAYBE) {
+            const char *equals = strchr(*words, '=');
+            option->take(options, equals ? equals + 1 : NULL);
             continue;
         }
         if (!words[1])
@@ -303,6 +346,22 @@ static char **read_options(struct options *options, char **words)
         option->take(options, *++words);
     }
     return words;
+}
+
+/* What is asked of steered runs has to go with the rest. */
+static void check_confirm(const struct options *options, const char *other)
+{
+    bool confirms = confirm_is_any(&options->settings);
+    if (options->counts_confirmed && !confirm_is_wanted(&options->settings))
+        refuse("--alarms confirmed needs --confirm");
+    if (options->settings.before && !confirms)
+        refuse("--before needs --confirm");
+    if (confirms && other)
+        refuse("%s runs no program, so --confirm means nothing", other);
+    if (confirms && options->gdb)
+        refuse("--confirm and --gdb are one or the other");
+    if (confirms && options->settings.frames == 1)
+        refuse("--confirm needs stacks: --frames is 2 or more then");
 }
 
 void options_read(struct options *options, const char *here, char **words)
@@ -315,6 +374,7 @@ void options_read(struct options *options, const char *here, char **words)
     *options = (struct options){.here = here, .depth = 2};
     options->settings.directory = directory ? directory : "";
     options->settings.frames = number_up_to(frames, 16);
+    options->settings.confirm_seconds = CONFIRM_SECONDS;
     if (options->settings.frames < 0)
         refuse("RECORD_FRAMES is 1 to 16, not %s", frames);
     options->program = read_options(options, words);
@@ -325,5 +385,8 @@ void options_read(struct options *options, const char *here, char **words)
         refuse("no program is named");
     if (options->settings.learn && options->settings.known)
         refuse("--learn and --known are one or the other");
+    check_confirm(options, other);
+    if (options->settings.confirm_from && options->settings.confirm == 0)
+        options->settings.confirm = CONFIRM_RUNS;
     options->settings.program = other ? "" : file_base(*options->program);
 }

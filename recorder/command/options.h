@@ -17,8 +17,9 @@ struct options {
     char **program;     /* its name and its words */
     const char *on_report; /* --on-report: what libwitness does at a report; NULL where it isn't wanted */
     bool gdb;           /* --gdb: the program runs in gdb, which stands where a report's lock is asked for */
+    bool counts_confirmed; /* --alarms confirmed */
     int depth;
-    bool full, held, semaphores, blocks;
+    bool held, semaphores, blocks;
 };
 
 /* Reads the words, of which the last is followed by NULL. Those that can't be meant are refused, and nothing is run. */

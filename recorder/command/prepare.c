@@ -15,6 +15,7 @@
 #include "files.h"
 #include "learn.h"
 #include "memory.h"
+#include "plan.h"
 #include "usage.h"
 #include "written.h"
 
@@ -210,17 +211,27 @@ void prepare_environment(const struct options *options, const char *records)
     snprintf(depth, sizeof depth, "%d", options->depth);
     snprintf(frames, sizeof frames, "%d", options->settings.frames);
     setenv("RECORDER_DIRECTORY", records, 1);
-    setenv("RECORDER_STREAMS", options->full ? "full" : "condensed", 1);
     setenv("RECORDER_DEPTH", depth, 1);
     setenv("RECORDER_FRAMES", frames, 1);
     setenv("RECORDER_SKIP", options->settings.skip ? options->settings.skip : "", 1);
     unsetenv("RECORDER_HELD");
     unsetenv("RECORDER_SEMAPHORES");
     unsetenv("RECORDER_BLOCKS");
+    unsetenv("RECORDER_PLAN");
     if (options->held)
         setenv("RECORDER_HELD", "1", 1);
     if (options->semaphores)
         setenv("RECORDER_SEMAPHORES", "1", 1);
     if (options->blocks)
         setenv("RECORDER_BLOCKS", "1", 1);
+}
+
+void prepare_noise(const struct options *options, const char *records)
+{
+    struct plan plan = plan_of_noise((uint32_t)options->settings.noise);
+    char *path = say_text("%s/plan", records);
+    if (!plan_write(&plan, path))
+        fail_for_room();
+    setenv("RECORDER_PLAN", path, 1);
+    free(path);
 }

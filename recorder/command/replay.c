@@ -6,6 +6,7 @@
 #include <unistd.h>
 
 #include "clean.h"
+#include "confirm.h"
 #include "files.h"
 #include "follow.h"
 #include "learn.h"
@@ -54,7 +55,8 @@ static bool wants_file(const struct run *run)
 {
     const struct settings *settings = &run->settings;
     return is_asked(settings->keep) || is_asked(settings->graph) || settings->judge ||
-           learn_is_wanted(settings) || is_asked(settings->html) || is_asked(settings->sarif) || is_asked(settings->json) || run->ending->how == HOW_RUNNING;
+           learn_is_wanted(settings) || is_asked(settings->html) || is_asked(settings->sarif) || is_asked(settings->json) ||
+           confirm_is_wanted(settings) || run->ending->how == HOW_RUNNING;
 }
 
 static int open_trace(const struct process *process)
@@ -79,7 +81,6 @@ void replay(struct process *process)
     struct clean *clean = take(sizeof *clean);
     struct tee tee = {&replaying, clean, !process->is_followed && wants_file(run) ? open_trace(process) : -1, false};
     replaying_begin(&replaying, &run->answers, run->settings.witness);
-    process->stream.told = follow_told_at(run, process->recording->name);
     process->resolved = resolve_to(run, &process->stream, true, &tee, &process->notes);
     process->status = replaying_end(&replaying);
     close_trace(process, &tee, process->resolved);

@@ -65,8 +65,6 @@ void replayer_check(struct settings *settings)
     }
     if (brief_run(words, "", false) >= NOT_RUN)
         fail("%s can't be run: nothing was run", witness);
-    if (settings->all_held && !knows(witness, "replay", "profile all\n"))
-        fail("%s doesn't know --profile: nothing was run", witness);
     if (settings->judge && !knows(witness, "migrate", ""))
         fail("%s doesn't know --judge: nothing was run", witness);
 }

@@ -38,6 +38,8 @@ static const char *add_spot(struct report_line *line, const struct notes *notes,
     if (!spot)
         return NULL;
     line->is_spot = true;
+    line->spot = (size_t)(spot - notes->spot) + 1;
+    line->at = spot->at;
     line->site = spot->site;
     line->thread = spot->thread;
     line->known = known_of(notes, spot->thread);

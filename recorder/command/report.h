@@ -30,6 +30,10 @@ struct report_line {
     long thread;                 /* as the kernel counts; 0 where it isn't known */
     const struct event *known;   /* its name and who made it; NULL where they aren't known */
     unsigned seat, next;
+    bool is_behind_readers; /* the lock that the seat waits for is held by a reader, whom no lock names */
+    size_t spot;            /* the place's number in the notes; 0 for none */
+    unsigned long at;       /* in milliseconds, when it was there first */
+    size_t held_spot;       /* of a step: where its first lock was taken; 0 where that isn't known */
 };
 
 struct report {

@@ -75,7 +75,6 @@ bool resolve(struct resolver *resolver, const struct stream *stream, bool silenc
         .notes = notes,
         .frames = settings->frames > 1 ? (size_t)settings->frames : 1,
         .is_learnt = (settings->learn && *settings->learn) || (settings->known && *settings->known),
-        .all_held = settings->all_held,
         .progress = settings->progress,
         .trace = trace,
     };

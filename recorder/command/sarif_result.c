@@ -59,12 +59,15 @@ static void write_words(struct objects *to, const struct finding *finding)
         free(plain_words);
         free(site);
     }
-    char *single = sarif_plain(finding->single), *whole = say_text("%s%s%s", text, *single ? "\n" : "", single);
+    char *single = sarif_plain(finding->single);
+    char *confirmed = sarif_plain(finding->confirmed ? finding->confirmed->text : "");
+    char *whole = say_text("%s%s%s%s%s", text, *single ? "\n" : "", single, *confirmed ? "\n" : "", confirmed);
     object_open(to, "message", '{');
     object_text(to, "text", whole);
     object_close(to, '{');
     free(whole);
     free(single);
+    free(confirmed);
     free(text);
     free(plain);
     free(what);
@@ -186,8 +189,43 @@ static size_t in_time(const struct report *report, const struct report_line **li
     return count;
 }
 
-static void write_flows(struct objects *to, const struct findings *findings, const struct report *report)
+/* What a thread of a hang did: it took the one lock, and waits for the other. */
+static void write_hung(struct objects *to, const struct findings *findings, const struct hung_thread *thread)
 {
+    char *words = say_text("thread %ld", thread->thread);
+    char *took = say_text("\"%s\" is taken", thread->took ? thread->took : "");
+    char *waits = say_text("\"%s\" is waited for", thread->wants);
+    object_open(to, NULL, '{');
+    sarif_message(to, "message", words);
+    object_open(to, "locations", '[');
+    if (thread->took && sarif_is_place(thread->took_at))
+        write_step(to, thread->took_at, findings->directory, NULL, took, true, 0);
+    if (sarif_is_place(thread->wants_at))
+        write_step(to, thread->wants_at, findings->directory, NULL, waits, true, 0);
+    object_close(to, '[');
+    object_close(to, '{');
+    free(words);
+    free(took);
+    free(waits);
+}
+
+/* How it hung in a steered run. */
+static void write_hang(struct objects *to, const struct findings *findings, const struct confirmed *confirmed)
+{
+    if (!is_confirmed(confirmed))
+        return;
+    object_open(to, NULL, '{');
+    sarif_message(to, "message", confirmed->text);
+    object_open(to, "threadFlows", '[');
+    for (size_t i = 0; i < confirmed->hang.threads; i++)
+        write_hung(to, findings, &confirmed->hang.thread[i]);
+    object_close(to, '[');
+    object_close(to, '{');
+}
+
+static void write_flows(struct objects *to, const struct findings *findings, const struct finding *finding)
+{
+    const struct report *report = finding->report;
     const struct report_line **line = take((report->lines + 1) * sizeof *line);
     size_t count = in_time(report, line);
     object_open(to, "codeFlows", '[');
@@ -208,6 +246,7 @@ static void write_flows(struct objects *to, const struct findings *findings, con
         object_close(to, '[');
         object_close(to, '{');
     }
+    write_hang(to, findings, finding->confirmed);
     object_close(to, '[');
     free(line);
 }
@@ -289,14 +328,14 @@ static void write_properties(struct objects *to, const struct finding *finding)
 void sarif_result(struct objects *to, const struct findings *findings, const struct finding *finding, size_t repeat)
 {
     const struct report *report = finding->report;
-    bool is_certain = report->kind == REPORT_CIRCLE || report->kind == REPORT_SELF;
+    bool is_certain = report->kind == REPORT_CIRCLE || report->kind == REPORT_SELF || is_confirmed(finding->confirmed);
     object_open(to, NULL, '{');
     object_text(to, "ruleId", kinds[report->kind].rule);
     object_number(to, "ruleIndex", report->kind);
     object_text(to, "level", is_certain ? "error" : finding->counts || finding->is_silenced ? "warning" : "note");
     write_words(to, finding);
     write_locations(to, findings, report);
-    write_flows(to, findings, report);
+    write_flows(to, findings, finding);
     write_stacks(to, findings, report);
     write_fingerprints(to, finding, repeat);
     if (finding->is_silenced)

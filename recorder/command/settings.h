@@ -32,7 +32,13 @@ struct settings {
     int frames;            /* --frames */
     const char *on_deadlock; /* --on-deadlock: tell, kill, exit=N; NULL is tell */
     const char *alarms;    /* --alarms: which reports count for the status */
-    bool suppressions, all_held, judge;
+    int confirm;           /* --confirm: so many steered runs for a report; 0 where it isn't asked for */
+    int confirm_seconds;   /* --confirm-time: for all of them */
+    const char *confirm_from; /* --confirm-from: the reports of that file of --json */
+    const char *before;    /* --before: a command before each steered run */
+    int noise;             /* --noise: the longest pause before a second lock, in milliseconds; 0 for none */
+    const struct again *again; /* how the program is begun again (steered.h) */
+    bool suppressions, judge;
     bool no_errors;        /* errors in the use of locks aren't told */
     bool in_debugger;      /* the program's process is a debugger's child */
     bool quiet;            /* nothing is told before the program has ended */

@@ -10,6 +10,7 @@
 #include <sys/resource.h>
 #include <unistd.h>
 
+#include "confirm.h"
 #include "equal.h"
 #include "follow.h"
 #include "findings_run.h"
@@ -148,6 +149,7 @@ static int tell_run(struct run *run)
     tell_unmatched(run);
     tell_going(run);
     learn_tell(run);
+    confirm_reports(run);
     if (run->is_kept)
         say(&run->output, "the recording is kept: %s", run->records);
     return tell_end(run);
@@ -201,6 +203,21 @@ struct run *show_begins(const struct settings *settings, const char *work, const
     run->records = records;
     run->resolver = resolver_new(&run->settings);
     return run;
+}
+
+void run_is_watched(struct run *run, struct watched *watched)
+{
+    run->watched = watched;
+}
+
+const struct watched *watched_of(const struct run *run)
+{
+    return run->watched;
+}
+
+void show_leaves(struct run *run)
+{
+    end_run(run);
 }
 
 void show_goes_on(struct run *run, pid_t process)

@@ -23,6 +23,12 @@ struct run;
 /* The recording of the run is in the folder `records`, below `work`. */
 struct run *show_begins(const struct settings *settings, const char *work, const char *records);
 
+/* The run is a steered one: nothing of it is told, and what is watched goes there. It ends by show_leaves. */
+struct watched;
+void run_is_watched(struct run *run, struct watched *watched);
+const struct watched *watched_of(const struct run *run);
+void show_leaves(struct run *run);
+
 /* The program goes on as that process: tells what is new. It returns soon, and may be called again and again. */
 void show_goes_on(struct run *run, pid_t process);
 

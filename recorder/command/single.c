@@ -18,40 +18,126 @@ static bool read_number(const char **at, const char *end, unsigned long *number)
     return *number <= UINT32_MAX && (from == end || *from == ' ');
 }
 
-/* `again` is set where the order isn't told of for the first time. */
-static bool read_lock(const char **at, const char *end, struct single_lock *lock, bool *again)
+/* `m` says that there are more threads than two. */
+static void read_letter(char letter, struct single_pair *pair)
 {
-    unsigned long number, serial;
-    if (!read_number(at, end, &number) || !read_number(at, end, &serial) || end - *at < 2 || **at != ' ')
+    pair->under |= letter == 'u';
+    pair->further |= letter == 'm';
+    if (letter == 'l')
+        pair->how = SINGLE_FOR_A_TIME;
+    else if (letter == 'p')
+        pair->how = SINGLE_REPEATEDLY;
+    else if (letter == 'w')
+        pair->how = SINGLE_AS_A_WAIT_ENDS;
+}
+
+/* A lock of the pair, which the letters after its mode tell more of. */
+static bool read_lock(const struct single *single, const char **at, const char *end, struct single_lock *lock,
+    struct single_pair *pair)
+{
+    unsigned long number, serial, type;
+    if (!read_number(at, end, &number) || !read_number(at, end, &serial) || !read_number(at, end, &type) || end - *at < 2
+        || **at != ' ')
         return false;
-    lock->number = (uint32_t)number;
-    lock->serial = (uint32_t)serial;
     const char *how = *at + 1;
-    lock->shared = *how == 's';
-    for (lock->timed = lock->repeated = lock->ends_wait = lock->under = false; how < end && *how != ' '; how++) {
-        lock->timed |= *how == 'l';
-        lock->repeated |= *how == 'p';
-        lock->ends_wait |= *how == 'w';
-        lock->under |= *how == 'u';
-        *again |= *how == 'r';
-    }
+    *lock = (struct single_lock){(uint32_t)number, (uint32_t)serial, type < single->types ? single->type[type].first : 0,
+        *how == 's'};
+    while (how < end && *how != ' ')
+        read_letter(*how++, pair);
     *at = how;
     return true;
 }
 
-/* The locks of the line's rest: at least two. */
-static bool read_locks(struct single_order *order, const char *at, const char *end, bool *again)
+/* The locks of the line's rest. */
+static bool read_locks(const struct single *single, struct single_pair *pair, const char *at, const char *end)
 {
-    struct single_lock *lock = NULL;
-    size_t room = 0;
-    order->locks = 0;
-    for (struct single_lock next; at < end && read_lock(&at, end, &next, again);)
-        ADD(lock, order->locks, room) = next;
-    order->lock = lock;
-    if (at == end && order->locks > 1)
-        return true;
-    free(lock);
-    return false;
+    if (!read_lock(single, &at, end, &pair->held, pair) || !read_lock(single, &at, end, &pair->asked, pair))
+        return false;
+    while (at < end && pair->besides < BESIDES_MOST)
+        if (!read_lock(single, &at, end, &pair->beside[pair->besides++], pair))
+            return false;
+    return at == end;
+}
+
+/* The pair that this one tells more of, or a place for it. */
+static struct single_pair *place_of(struct single *single, const struct single_pair *pair)
+{
+    const uint32_t key[] = {pair->held.serial, pair->asked.serial,
+        (uint32_t)pair->how << 3 | (uint32_t)pair->under << 2 | (uint32_t)pair->held.shared << 1 | pair->asked.shared};
+    size_t *number = map_add(&single->by_key, key, sizeof key);
+    if (*number == 0) {
+        ADD(single->pair, single->pairs, single->pair_room) = *pair;
+        *number = single->pairs;
+        single->pair[*number - 1].number = *number;
+    }
+    return &single->pair[*number - 1];
+}
+
+static const struct single_lock *beside_of(const struct single_pair *pair, uint32_t serial)
+{
+    for (size_t i = 0; i < pair->besides; i++)
+        if (pair->beside[i].serial == serial)
+            return &pair->beside[i];
+    return NULL;
+}
+
+/* What is in both stays, as shared where it is in one of them. */
+static void meet_besides(struct single_pair *pair, const struct single_pair *told)
+{
+    size_t kept = 0;
+    for (size_t i = 0; i < pair->besides; i++) {
+        const struct single_lock *same = beside_of(told, pair->beside[i].serial);
+        if (!same)
+            continue;
+        bool shared = pair->beside[i].shared || same->shared;
+        pair->beside[kept] = *same;
+        pair->beside[kept++].shared = shared;
+    }
+    pair->besides = kept;
+}
+
+/* The numbers in the trace are the last ones that the locks had. */
+static void take_numbers(struct single_pair *pair, const struct single_pair *told)
+{
+    if (told->held.number)
+        pair->held = told->held;
+    if (told->asked.number)
+        pair->asked = told->asked;
+}
+
+static struct single_deed *deed_of(struct single_pair *pair, long thread)
+{
+    for (size_t i = 0; i < pair->deeds; i++)
+        if (pair->deed[i].thread == thread)
+            return &pair->deed[i];
+    return NULL;
+}
+
+/* FURTHER: two threads had done so by then. This may be one of them, or have the number of one that has ended. */
+static void add_deed(struct single_pair *pair, const struct single_deed *deed, bool further)
+{
+    struct single_deed *known = deed_of(pair, deed->thread);
+    if (further && !pair->further)
+        pair->further = deed->thread;
+    if (known && deed->last > known->last)
+        known->last = deed->last;
+    if (!known && !further && pair->deeds < sizeof pair->deed / sizeof *pair->deed)
+        pair->deed[pair->deeds++] = *deed;
+}
+
+static void read_pair(struct single *single, const char *at, const char *end)
+{
+    struct single_pair told = {.how = SINGLE_PLAINLY};
+    unsigned long seat, thread, when;
+    if (!read_number(&at, end, &seat) || !read_number(&at, end, &thread) || !read_number(&at, end, &when)
+        || !read_locks(single, &told, at, end))
+        return;
+    bool further = told.further;
+    told.further = 0;
+    struct single_pair *pair = place_of(single, &told);
+    meet_besides(pair, &told);
+    take_numbers(pair, &told);
+    add_deed(pair, &(struct single_deed){(long)thread, when, when}, further);
 }
 
 static bool begins(const char **at, const char *end, const char *word)
@@ -61,30 +147,6 @@ static bool begins(const char **at, const char *end, const char *word)
         return false;
     *at += length;
     return true;
-}
-
-static void read_order(struct single *single, const char *at, const char *end)
-{
-    struct single_order order;
-    unsigned long seat, thread;
-    bool again = false;
-    if (!read_number(&at, end, &seat) || !read_number(&at, end, &thread) || !read_number(&at, end, &order.at)
-        || !read_locks(&order, at, end, &again))
-        return;
-    order.thread = (long)thread;
-    if (again)
-        ADD(single->again, single->agains, single->again_room) = order;
-    else
-        ADD(single->order, single->orders, single->order_room) = order;
-}
-
-static void read_many(struct single *single, const char *at, const char *end)
-{
-    struct single_order order = {.thread = 0};
-    unsigned long seat;
-    bool again = false;
-    if (read_number(&at, end, &seat) && read_locks(&order, at, end, &again))
-        ADD(single->many, single->manys, single->many_room) = order;
 }
 
 static bool read_three(const char *at, const char *end, unsigned long number[3])
@@ -97,10 +159,10 @@ void single_read(struct single *single, const char *line, size_t length)
 {
     const char *at = line, *end = line + length;
     unsigned long number[3];
-    if (begins(&at, end, WORD_ORDER))
-        read_order(single, at, end);
+    if (begins(&at, end, WORD_PAIR))
+        read_pair(single, at, end);
     else if (begins(&at, end, WORD_MANY))
-        read_many(single, at, end);
+        single->is_full = true;
     else if (begins(&at, end, WORD_LIFE) && read_three(at, end, number))
         ADD(single->life, single->lives, single->life_room)
             = (struct single_life){(long)number[0], (long)number[1], number[2]};
@@ -109,57 +171,117 @@ void single_read(struct single *single, const char *line, size_t length)
             = (struct single_join){(long)number[0], (long)number[1], number[2]};
 }
 
+static int by_locks(const void *left, const void *right)
+{
+    const struct single_pair *one = left, *other = right;
+    if (one->held.type != other->held.type)
+        return one->held.type < other->held.type ? -1 : 1;
+    if (one->held.serial != other->held.serial)
+        return one->held.serial < other->held.serial ? -1 : 1;
+    return one->number < other->number ? -1 : one->number > other->number;
+}
+
+static int by_numbers(unsigned long one, unsigned long other)
+{
+    return one < other ? -1 : one > other;
+}
+
+static int by_thread(const void *left, const void *right)
+{
+    const struct single_life *one = left, *other = right;
+    int order = by_numbers((unsigned long)one->thread, (unsigned long)other->thread);
+    order = order ? order : by_numbers((unsigned long)one->maker, (unsigned long)other->maker);
+    return order ? order : by_numbers(one->made_at, other->made_at);
+}
+
+static int by_joined(const void *left, const void *right)
+{
+    const struct single_join *one = left, *other = right;
+    int order = by_numbers((unsigned long)one->thread, (unsigned long)other->thread);
+    return order ? order : by_numbers(one->at, other->at);
+}
+
+void single_sort(struct single *single)
+{
+    map_end(&single->by_key);
+    if (single->pairs > 0)
+        qsort(single->pair, single->pairs, sizeof *single->pair, by_locks);
+    if (single->lives > 0)
+        qsort(single->life, single->lives, sizeof *single->life, by_thread);
+    if (single->joins > 0)
+        qsort(single->join, single->joins, sizeof *single->join, by_joined);
+}
+
 void single_end(struct single *single)
 {
-    for (size_t i = 0; i < single->orders; i++)
-        free((void *)single->order[i].lock);
-    for (size_t i = 0; i < single->agains; i++)
-        free((void *)single->again[i].lock);
-    for (size_t i = 0; i < single->manys; i++)
-        free((void *)single->many[i].lock);
-    free(single->order);
-    free(single->again);
-    free(single->many);
+    map_end(&single->by_key);
+    free(single->type);
+    free(single->pair);
     free(single->life);
     free(single->join);
     memset(single, 0, sizeof *single);
 }
 
+bool single_lacks_pairs(const struct single *single)
+{
+    return single->is_full || single->lost > 0;
+}
+
+/* The first life of a thread of that number or a higher one. */
+static size_t life_from(const struct single *single, long thread)
+{
+    size_t from = 0, to = single->lives;
+    while (from < to) {
+        size_t middle = from + (to - from) / 2;
+        if (single->life[middle].thread < thread)
+            from = middle + 1;
+        else
+            to = middle;
+    }
+    return from;
+}
+
 /* Whether the kernel gave the number to a second thread: two lives of it then disagree. */
 static bool is_reused(const struct single *single, long thread)
 {
-    const struct single_life *first = NULL;
-    for (size_t i = 0; i < single->lives; i++) {
-        const struct single_life *life = &single->life[i];
-        if (life->thread != thread)
-            continue;
-        if (first && (life->maker != first->maker || life->made_at != first->made_at))
+    size_t first = life_from(single, thread);
+    for (size_t i = first; i < single->lives && single->life[i].thread == thread; i++)
+        if (by_thread(&single->life[i], &single->life[first]) != 0)
             return true;
-        first = life;
-    }
     return false;
 }
 
 /* The thread's life; NULL where none is told of, or of two threads with that number. */
 static const struct single_life *life_of(const struct single *single, long thread)
 {
-    if (is_reused(single, thread))
-        return NULL;
-    for (size_t i = 0; i < single->lives; i++)
-        if (single->life[i].thread == thread)
-            return &single->life[i];
-    return NULL;
+    size_t first = life_from(single, thread);
+    bool is_there = first < single->lives && single->life[first].thread == thread;
+    return is_there && !is_reused(single, thread) ? &single->life[first] : NULL;
 }
 
-bool single_is_before(const struct single *single, const struct single_order *one, const struct single_order *other)
+/* The first join of a thread of that number or a higher one. */
+static size_t join_from(const struct single *single, long thread)
+{
+    size_t from = 0, to = single->joins;
+    while (from < to) {
+        size_t middle = from + (to - from) / 2;
+        if (single->join[middle].thread < thread)
+            from = middle + 1;
+        else
+            to = middle;
+    }
+    return from;
+}
+
+bool single_is_before(const struct single *single, const struct single_deed *one, const struct single_deed *other)
 {
     if (is_reused(single, one->thread) || is_reused(single, other->thread))
         return false;
-    for (size_t i = 0; i < single->joins; i++) {
+    for (size_t i = join_from(single, one->thread); i < single->joins && single->join[i].thread == one->thread; i++) {
         const struct single_join *join = &single->join[i];
-        if (join->thread != one->thread || is_reused(single, join->by))
+        if (is_reused(single, join->by))
             continue;
-        if (join->by == other->thread && join->at < other->at)
+        if (join->by == other->thread && join->at < other->first)
             return true;
         size_t steps = 0;
         for (const struct single_life *life = life_of(single, other->thread); life && steps <= single->lives; steps++) {
@@ -171,48 +293,20 @@ bool single_is_before(const struct single *single, const struct single_order *on
     return false;
 }
 
-static bool is_alike(const struct single_lock *one, const struct single_lock *other)
+bool single_is_early(const struct single *single, const struct single_deed *one, const struct single_deed *other)
 {
-    return one->serial == other->serial && one->shared == other->shared && one->timed == other->timed && one->repeated == other->repeated
-        && one->ends_wait == other->ends_wait && one->under == other->under;
-}
-
-bool single_are_alike(const struct single_order *one, const struct single_order *other)
-{
-    if (one->locks != other->locks)
-        return false;
-    for (size_t i = 0; i < one->locks; i++)
-        if (!is_alike(&one->lock[i], &other->lock[i]))
-            return false;
-    return true;
-}
-
-/* When the order's thread took its locks so after it had last made a thread. */
-static unsigned long last_told(const struct single *single, const struct single_order *order)
-{
-    unsigned long last = order->at;
-    for (size_t i = 0; i < single->agains; i++)
-        if (single->again[i].thread == order->thread && single->again[i].at > last
-            && single_are_alike(&single->again[i], order))
-            last = single->again[i].at;
-    return last;
-}
-
-bool single_is_early(const struct single *single, const struct single_order *one, const struct single_order *other)
-{
-    unsigned long last = last_told(single, one);
-    if (single->lost > 0 || last >= ORDER_TELLINGS - 1 || is_reused(single, one->thread))
+    if (single->lost > 0 || one->last >= PAIR_TELLINGS - 1 || is_reused(single, one->thread))
         return false;
     size_t steps = 0;
     for (const struct single_life *life = life_of(single, other->thread); life && steps <= single->lives; steps++) {
         if (life->maker == one->thread && life->maker != 0)
-            return last <= life->made_at;
+            return one->last <= life->made_at;
         life = life_of(single, life->maker);
     }
     return false;
 }
 
-bool single_is_first(const struct single *single, const struct single_order *order)
+bool single_is_first(const struct single *single, const struct single_deed *deed)
 {
-    return single->lost == 0 && last_told(single, order) == 0;
+    return single->lost == 0 && deed->last == 0;
 }

@@ -1,6 +1,6 @@
 /*
- * The orders of single locks that a recorder's file has (recorder/singles.c): which thread asked for which lock while it
- * held which others; and which thread was made or joined when.
+ * The pairs of single locks that a recorder's file has (recorder/single_pairs.c): which threads asked for which lock while
+ * they held which other; and which thread was made or joined when.
  */
 #ifndef RECORD_SINGLE_H
 #define RECORD_SINGLE_H
@@ -9,21 +9,34 @@
 #include <stddef.h>
 #include <stdint.h>
 
-/* A lock of an order. Its serial number is no other lock's; its number in the trace may be one that another had before. */
+#include "map.h"
+
+enum { BESIDES_MOST = 4 };
+
+/* A lock of a pair. Its serial number is no other lock's; its number in the trace may be one that another had before. */
 struct single_lock {
-    uint32_t number, serial;
-    bool shared, timed;
-    bool repeated;  /* it is asked for with a time limit, again and again: that counts as without one */
-    bool ends_wait; /* it is asked for again as a wait for a condition ends */
-    bool under;     /* it was acquired while the lock was held that is asked for */
+    uint32_t number, serial; /* the number is 0 where it has none */
+    uint32_t type;           /* as single.type counts; 0 where the trace has no room for it */
+    bool shared;
 };
 
-/* The last lock was asked for by the thread while it held the others, oldest first. */
-struct single_order {
+/* A thread that made the pair, and how many threads had been made and joined when it first did so, and last told so. */
+struct single_deed {
     long thread; /* as the kernel counts */
-    unsigned long at; /* when it did so first */
-    const struct single_lock *lock;
-    size_t locks;
+    unsigned long first, last;
+};
+
+/* The one lock was asked for while the other was held. */
+struct single_pair {
+    struct single_lock held, asked;
+    enum single_how { SINGLE_PLAINLY, SINGLE_FOR_A_TIME, SINGLE_REPEATEDLY, SINGLE_AS_A_WAIT_ENDS } how;
+    bool under;                      /* the held one was acquired while the other was held */
+    struct single_lock beside[BESIDES_MOST]; /* that were held each time besides; shared where one ever was */
+    size_t besides;
+    struct single_deed deed[2];
+    size_t deeds;
+    long further;  /* a third thread that made it; there may be others, and when they did so isn't known. 0 for none */
+    size_t number; /* among those of the file: which one was told of first */
 };
 
 struct single_life {
@@ -36,40 +49,51 @@ struct single_join {
     unsigned long at;
 };
 
+/* A type of the file, which may be one with an earlier one. */
+struct single_type {
+    uint32_t first;
+    const char *name; /* of the first one; a text of the notes */
+};
+
 struct single {
-    struct single_order *order;
-    size_t orders, order_room;
-    struct single_order *again; /* told of again by the thread that has told of them, after it has made another one */
-    size_t agains, again_room;
-    unsigned long lost;         /* calls for which the file had no room */
+    struct single_type *type; /* by the file's numbers, from 1 on */
+    size_t types, type_room;  /* one more than the highest number */
+    struct single_pair *pair;
+    size_t pairs, pair_room;
+    struct map by_key;        /* where each pair is, from 1 on; empty after single_sort */
+    bool is_full;             /* there may be further pairs */
+    unsigned long lost;       /* calls for which the file had no room, or what their thread holds */
     struct single_life *life;
     size_t lives, life_room;
     struct single_join *join;
     size_t joins, join_room;
-    struct single_order *many; /* after chains of these types further orders aren't known; of no thread */
-    size_t manys, many_room;
 };
 
-/* Takes in a line, if it is one of these words; a malformed one is passed over. */
+/*
+ * Takes in a line, if it is one of these words; a malformed one is passed over. What is told of one pair is put together:
+ * its threads, and what was held besides each time. The types are there by then.
+ */
 void single_read(struct single *single, const char *line, size_t length);
+/* After the last line: sorts the pairs by the held lock's type and serial number, then by the file's order; threads, too. */
+void single_sort(struct single *single);
 void single_end(struct single *single);
 
+/* Whether pairs of single locks may be missing. */
+bool single_lacks_pairs(const struct single *single);
+
 /*
- * Whether the thread of the one order was joined before the other's was made, or one that made that in turn, by the thread
+ * Whether the thread of the one deed was joined before the other's was made, or one that made that in turn, by the thread
  * that joined; or by the other's thread itself, before it first did so.
  */
-bool single_is_before(const struct single *single, const struct single_order *one, const struct single_order *other);
-
-/* Whether both are orders of the same locks, in the same modes, that were made in the same way. */
-bool single_are_alike(const struct single_order *one, const struct single_order *other);
+bool single_is_before(const struct single *single, const struct single_deed *one, const struct single_deed *other);
 
 /*
- * Whether the thread of the one order has made the other's, or one that made that in turn, and never took its locks so again
- * after that. It isn't known of a thread that had made many by then, or where calls weren't recorded.
+ * Whether the thread of the one deed has made the other's, or one that made that in turn, and never did so again after that.
+ * It isn't known of a thread that had made many by then, or where calls weren't recorded.
  */
-bool single_is_early(const struct single *single, const struct single_order *one, const struct single_order *other);
+bool single_is_early(const struct single *single, const struct single_deed *one, const struct single_deed *other);
 
-/* Whether its thread made the order before there was any other thread, and never after that. */
-bool single_is_first(const struct single *single, const struct single_order *order);
+/* Whether it was done before there was any other thread, and never after that. */
+bool single_is_first(const struct single *single, const struct single_deed *deed);
 
 #endif

@@ -13,7 +13,6 @@ struct stream {
     const char *bytes; /* as they were when it was opened */
     size_t length;     /* of the lines that are whole */
     size_t mapped;     /* memory for them */
-    size_t told;       /* its length when a report of it was told first; 0 where none was */
     char *program;     /* of the first line */
     long process;      /* by the file's name */
     bool answered;     /* it was asked which mutexes are held, and has answered */

@@ -17,6 +17,7 @@
 #include "settings.h"
 #include "show.h"
 #include "status.h"
+#include "steered.h"
 #include "stream.h"
 
 /* A file of a process in the recording. */
@@ -49,6 +50,7 @@ struct run {
     struct alarms_wanted alarms_wanted;
     int deadlock_status;  /* of `record`, since a process was ended; 0 where none was */
     unsigned long alarms; /* the reports that count for the status */
+    unsigned long confirmed; /* those that hung */
     bool reported;  /* something was, of any kind */
     bool misjudged; /* a trace isn't one of locks that were free when they were taken */
     bool partly;    /* not all was recorded */
@@ -66,7 +68,8 @@ struct run {
     struct followed *followed; /* streams that were read while the program ran (follow.c) */
     size_t followeds, followed_room;
     long long follow_next;     /* when they are looked at again, in microseconds */
-    struct findings findings; /* for files that were asked for */
+    struct findings findings; /* for files that were asked for, and for reports to be confirmed */
+    struct watched *watched;  /* of a steered run (steered.h); NULL of any other */
 };
 
 struct process {

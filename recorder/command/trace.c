@@ -24,7 +24,8 @@ struct writing {
     const char **lock; /* the names of locks: that of number N is lock[N - 1] */
     size_t locks, lock_room;
     uint32_t sitter[SEAT_MOST]; /* the thread that has each seat, as the kernel counts; 0 where it isn't known */
-    bool lock_is_tried; /* the next line of that word is a part of the `try` that was written */
+    size_t owner[SEAT_MOST];    /* the event that tells the owner of what the seat waits for, from 1 on; 0 for none */
+    uint32_t now;               /* in milliseconds */
     bool is_odd;
 };
 
@@ -63,8 +64,7 @@ static void write_header(struct writing *writing)
     fprintf(writing->trace, "witness-trace 1 seats %zu types %zu locks %zu chunks %zu\n", at_least_one(declared->seats),
         at_least_one(making->types->different), at_least_one(declared->locks),
         at_least_one(chunks > CHUNKS_MOST ? CHUNKS_MOST : chunks));
-    if (making->all_held)
-        fputs("profile all\n", writing->trace);
+    fputs("profile all\n", writing->trace);
     for (size_t i = 0; i < making->peace->pairs; i++) {
         put_name(writing, "bless ", making->peace->pair[i].first);
         put_name(writing, " ", making->peace->pair[i].second);
@@ -85,6 +85,28 @@ static void note_whole(struct writing *writing)
             ADD(notes->blind, notes->blinds, notes->blind_room) = texts_copy(notes->texts, name, strlen(name));
             free(name);
         }
+}
+
+/* The types of single locks: by the file's numbers, since a lock of a pair needn't be one of the trace. */
+static void note_types(struct writing *writing)
+{
+    const struct types *types = writing->making->types;
+    struct single *single = &writing->notes->single;
+    for (size_t i = 0; i < types->count; i++) {
+        const struct named_type *type = &types->type[types->type[i].first];
+        const char *name = type->name ? texts_copy(writing->notes->texts, type->name, strlen(type->name)) : NULL;
+        ADD(single->type, single->types, single->type_room) = (struct single_type){types->type[i].first, name};
+    }
+}
+
+/* What single locks lack: calls that aren't in the file, and locks that a thread held besides. */
+static void note_lost(struct writing *writing)
+{
+    unsigned long held = 0;
+    struct single *single = &writing->notes->single;
+    stream_count(writing->making->stream, "log", &single->lost);
+    stream_count(writing->making->stream, "held", &held);
+    single->lost += held;
 }
 
 /* The field as a number of a place; 0 is a place of which nothing is known. */
@@ -115,7 +137,8 @@ static size_t spot_number(struct writing *writing, uint32_t place, uint32_t stac
     if (*number == 0) {
         const char *site = site_of(writing->making->sites, place);
         uint32_t frames = frames_number(writing, place, stack);
-        ADD(notes->spot, notes->spots, notes->spot_room) = (struct spot){.site = site, .frames = frames, .thread = thread};
+        ADD(notes->spot, notes->spots, notes->spot_room) = (struct spot){
+            .site = site, .frames = frames, .thread = thread, .at = writing->now};
         *number = notes->spots;
     }
     return *number;
@@ -166,38 +189,27 @@ static void put_placed(struct writing *writing, const struct line *line, unsigne
     put_place(writing, line, field);
 }
 
-/*
- * One that stands for a request at which another lock was held just before. Where locks were tried, it is written as a
- * try, so that it teaches no direct order: recorder/write.c says why, and why not where none was tried. A try that comes
- * after a report was told changes nothing, so that it is told in the same words in the end.
- */
-static void put_moved(struct writing *writing, const struct line *line)
+/* What was told of the seat's wait is of one that is over. */
+static void end_wait(struct writing *writing, const struct line *line)
 {
-    const struct making *making = writing->making;
-    writing->lock_is_tried = making->declared->has_tries && !making->all_held;
-    if (writing->lock_is_tried) {
-        fputs(WORD_TRY " ", writing->trace);
-        put_fields(writing, line, 1, 4);
-    } else {
-        put_fields(writing, line, 0, 4);
-        fputs(CHECK_ASKS " ", writing->trace);
-    }
-    put_place(writing, line, 5);
+    uint32_t seat;
+    if (!writing->notes || !field_number(line, 1, SEAT_MOST - 1, &seat) || !writing->owner[seat])
+        return;
+    writing->notes->event[writing->owner[seat] - 1].is_over = true;
+    writing->owner[seat] = 0;
 }
 
+/* One that a build for tests has marked is a request as any other. */
 static void put_check(struct writing *writing, const struct line *line)
 {
-    if (line->count > 5 && field_is(line, 4, CHECK_MOVED))
-        put_moved(writing, line);
-    else
-        put_placed(writing, line, 5);
-}
-
-static void put_lock(struct writing *writing, const struct line *line)
-{
-    if (!writing->lock_is_tried)
+    end_wait(writing, line);
+    if (line->count <= 5) {
         put_line(writing, line);
-    writing->lock_is_tried = false;
+        return;
+    }
+    put_fields(writing, line, 0, 4);
+    fputs(CHECK_ASKS " ", writing->trace);
+    put_place(writing, line, 5);
 }
 
 static void put_try(struct writing *writing, const struct line *line)
@@ -352,6 +364,25 @@ static void note_holder(struct writing *writing, const struct line *line)
     event->thread = thread;
 }
 
+static void note_owner(struct writing *writing, const struct line *line)
+{
+    uint32_t thread = 0, seat;
+    end_wait(writing, line);
+    struct event *event = new_event(writing, EVENT_OWNER, line);
+    note_lock(writing, event, line, 2);
+    field_number(line, 3, INT32_MAX, &thread);
+    event->thread = thread;
+    if (writing->notes && field_number(line, 1, SEAT_MOST - 1, &seat))
+        writing->owner[seat] = writing->notes->events;
+}
+
+static void note_time(struct writing *writing, const struct line *line)
+{
+    uint32_t now;
+    if (field_number(line, 1, UINT32_MAX - 1, &now))
+        writing->now = now;
+}
+
 /* The function that made the thread, and where. */
 static void note_maker(struct writing *writing, struct event *event, uint32_t number)
 {
@@ -388,19 +419,21 @@ static const struct {
     void (*puts)(struct writing *writing, const struct line *line);
 } words[] = {
     {WORD_CHECK, put_check},
-    {WORD_LOCK, put_lock},
+    {WORD_LOCK, put_line},
     {WORD_UNLOCK, put_line},
     {WORD_TRY, put_try},
     {WORD_GIVEUP, put_line},
     {WORD_INIT, put_init},
+    {WORD_TIME, note_time},
     {WORD_THREAD, note_thread},
     {WORD_AGAIN, note_again},
     {WORD_WENT, note_went},
     {WORD_FOREIGN, note_foreign},
     {WORD_HOLDER, note_holder},
     {WORD_ANSWER, note_answer},
+    {WORD_OWNER, note_owner},
     {WORD_ERROR, note_error},
-    {WORD_ORDER, note_single},
+    {WORD_PAIR, note_single},
     {WORD_MANY, note_single},
     {WORD_LIFE, note_single},
     {WORD_JOINED, note_single},
@@ -424,11 +457,13 @@ bool trace_write(const struct making *making)
     writing->trace = making->trace;
     writing->notes = making->notes;
     if (making->notes)
-        stream_count(making->stream, "log", &making->notes->single.lost);
+        note_lost(writing);
     writing->has_spots = making->notes && (making->frames > 1 || making->is_learnt);
     write_header(writing);
-    if (writing->notes)
+    if (writing->notes) {
         note_whole(writing);
+        note_types(writing);
+    }
     for (unsigned long lines = 1; line_next(&line, &at, end); lines++) {
         write_line(writing, &line);
         if (lines % LINES_BETWEEN == 0 && ferror(making->trace))
@@ -436,6 +471,8 @@ bool trace_write(const struct making *making)
         if (making->progress)
             tell_resolved(lines, making->declared->lines);
     }
+    if (writing->notes)
+        single_sort(&writing->notes->single);
     bool written = fflush(making->trace) == 0 && !ferror(making->trace) && !writing->is_odd;
     map_end(&writing->spots);
     map_end(&writing->framed);

@@ -23,7 +23,7 @@ struct making {
     struct notes *notes; /* NULL where none are wanted */
     size_t frames;       /* so many of a stack are wanted; with 1 none, and places stand in the trace themselves */
     bool is_learnt;      /* its orders are: places are noted also where no frames are wanted */
-    bool all_held, progress;
+    bool progress;
     FILE *trace;
 };
 

@@ -35,12 +35,14 @@ if wanted alarms; then
     alarm gate 'both orders, the same locks, threads N and M; gate: each time "bank(mutex)" was held'
     alarm timed 'both orders, the same locks, threads N and M; timed: one was asked for with a time limit'
     alarm readers 'both orders, the same locks, threads N and M; readers: one waits for readers as a reader'
+    alarm writers 'both orders, the same locks, threads N and M'
+    alarm read-gate 'both orders, the same locks, threads N and M'
     alarm apart 'both orders, the same locks, threads N and M; apart: one thread was joined before the other did so'
     alarm early 'both orders, the same locks, threads N and M; apart: one thread did so before it made the other'
     alarm later 'both orders, the same locks, threads N and M'
     alarm begun 'both orders, the same locks, threads N and M; apart: one was done before there was another thread'
-    alarm by-two 'both orders, the same locks, threads N and M'
-    alarm many 'not known, there were more orders of such locks than are kept'
+    alarm by-two 'both orders, the same locks, threads N and M; apart: one was done before there was another thread'
+    alarm many 'one order only for any two locks: types alone'
     alarm three 'all orders of the circle, the same locks, threads N and M'
     alarm through 'all orders of the circle, the same locks, threads N and M'
     alarm inner 'all orders of the circle, the same locks, threads N and M; gate: each time "branch(mutex)/3" was held'
@@ -50,7 +52,7 @@ if wanted alarms; then
     alarm under 'both orders, the same locks, threads N and M; apart: one took its lock under the one that the other kept in its wait'
     alarm not-under 'both orders, the same locks, threads N and M'
     alarm twins 'both orders, the same locks, threads N and M'
-    alarm row 'one order only for any two locks: types alone'
+    alarm row 'one order: none of these locks was ever taken the other way round'
     reused apart 'both orders, the same locks, threads N and M'
     reused early 'both orders, the same locks, threads N and M; apart: one was done before there was another thread'
     counts 9 locks ''
@@ -68,7 +70,7 @@ if wanted alarms; then
     counts 0 apart threads,apart
     counts 0 early threads,apart
     counts 9 later threads,apart
-    counts 9 many threads
+    counts 0 many threads
     counts 9 through threads,timed
     counts 9 twice locks
     counts 0 twice threads
@@ -91,7 +93,7 @@ if wanted alarms; then
     rm -f held-open && mkfifo held-open
     RECORD_FRAMES=8 "$record" --depth 1 -- ./single asked 2>recorded.err <held-open &
     exec 8>held-open
-    within grep -q '^single locks: one order only' recorded.err
+    within grep -q '^single locks: one order: none of these locks ' recorded.err
     before=$?
     echo >&8
     exec 8>&-

@@ -13,22 +13,22 @@ as() {
 
 as members blocks.members "two mutexes that one call makes"
 as members blocks.none "two mutexes that one call makes" --blocks
-as members blocks.none "two mutexes that one call makes" --blocks --full
+writing_all as members blocks.none "two mutexes that one call makes" --blocks
 as crossed blocks.members "two threads lock them in both orders"
 as crossed blocks.crossed "two threads lock them in both orders" --blocks
-as crossed blocks.crossed "two threads lock them in both orders" --blocks --full
+writing_all as crossed blocks.crossed "two threads lock them in both orders" --blocks
 as places blocks.none "two kinds that are first used at two places"
 as places blocks.places "two kinds that are first used at two places" --blocks
-as places blocks.places "two kinds that are first used at two places" --blocks --full
+writing_all as places blocks.places "two kinds that are first used at two places" --blocks
 as row blocks.row "an array of objects" --blocks
-as row blocks.row "an array of objects" --blocks --full
+writing_all as row blocks.row "an array of objects" --blocks
 as free blocks.none "memory that another thread gives back" --blocks
 as grown blocks.places "a block that has grown" --blocks
 as moved blocks.none "a block that has moved" --blocks
 as child blocks.none "an order of the parent's, and one of its child's" --blocks
 as "child both" blocks.places "a child's orders, in its parent's blocks" --blocks
 for flags in -O0 -O2; do
-    words=many want=vectors.many example vectors "a vector of a hundred objects" --blocks --full
+    words=many want=vectors.many writing_all example vectors "a vector of a hundred objects" --blocks
     words=grown want=blocks.none example vectors "a vector that grows" --blocks
     words=both want=blocks.none example vectors "two classes, whose lines tell no member"
     words=both want=vectors.both example vectors "two classes, whose lines tell no member" --blocks

@@ -34,7 +34,7 @@ void recorder_leaves(void) { pthread_mutex_unlock(&mutex); }
 void aside(void (*function)(void *), void *argument) { function(argument); }
 uint32_t lock_youngest(void) { return 0; }
 void locks_left(uintptr_t from, uintptr_t to, uint32_t youngest) { (void)from, (void)to, (void)youngest; }
-void count_missed_all(enum missed what) { missed += what == MISSED_BLOCKS; }
+void count_missed(enum missed what) { missed += what == MISSED_BLOCKS; }
 
 bool takers_known(uintptr_t pc, uintptr_t stack, uintptr_t base, uint32_t wanted, uint32_t *found)
 {

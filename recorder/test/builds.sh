@@ -7,6 +7,7 @@ plant_small() {
     : >"$1/command/page.css" && : >"$1/command/below/note" && : >"$1/format.h" && : >"$1/recorder.h"
     printf '%s\n' '#include "recorder.h"' 'int is_recorder(void) { return 1; }' >"$1/start.c"
     echo 'int has_hooks(void) { return 1; }' >"$1/malloc/hooks.c"
+    cp "$duty" "$1"
     printf '%s\n' '#include <stdio.h>' '#include "../format.h"' '__asm__(".incbin \"page.css\"");' \
         'int main(int count, char **words) { return count > 2 && printf("%s in %s\n", words[2], words[1]) < 0; }' >"$1/command/main.c"
     find "$1" -exec touch -d '2 seconds ago' {} +
@@ -105,7 +106,7 @@ if wanted builds; then
         made_are "$work/small/out" builder record
         tell builds "the command alone for $word" $?
     done
-    built small/build --full
+    built small/build --quiet
     made_are "$work/small/out" recorder.so blocks.so
     tell builds "the rest with the next run" $?
     sanitize=1
@@ -133,7 +134,7 @@ if wanted builds; then
     built small/build
     sed -i '/^refused$/d' built.err
     refused_as "the recorder wasn't built" && is_left tmp '' && is_left small build builder command command/below command/below/note \
-        command/main.c command/page.css format.h malloc malloc/hooks.c orders record recorder.h start.c $(cd small && echo builder/*)
+        command/main.c command/page.css format.h libwit_condensed_c.a malloc malloc/hooks.c orders record recorder.h start.c $(cd small && echo builder/*)
     tell builds "a compiler that makes nothing of the builder" $?
     rm refuses
     # A folder that leaves no other than one for this run.

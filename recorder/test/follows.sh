@@ -37,11 +37,11 @@ if wanted follows; then
     before=$?
     end_live && [ $before -eq 0 ]
     tell follows "its callers" $?
-    begin_live --full -- ./live 0
+    writing_all begin_live -- ./live 0
     comes '^lock order reversal'
     before=$?
     end_live && [ $before -eq 0 ]
-    tell follows "of a full recording" $?
+    tell follows "of a recording of all requests" $?
     begin_live --log-file told.%p -- ./live 0
     within logged && [ ! -s recorded.err ]
     before=$?
@@ -84,7 +84,7 @@ if wanted hangs; then
     "$record" -- true 2>/dev/null
     "$record" -- ./deadlock >recorded.out 2>recorded.err &
     recorder_process=$!
-    comes '^circle:$' && comes '^ seat [12] .* waits for "pool" held by seat [12] @ deadlock.c:24$' &&
+    comes '^circle:$' && comes '^ seat [0-9]* .* waits for "pool" held by seat [0-9]* @ deadlock.c:24$' &&
         ! grep -q '^record: ' recorded.err
     before=$?
     kill "$recorder_process"
@@ -114,21 +114,23 @@ if wanted hangs; then
     tell hangs "a circle of which one gives up is left alone" $?
     # A wait for a condition ends with its mutex alone: it counts as a wait for that.
     compile conditions
-    for stream in "" --full; do
+    for requests in new all; do
+        record=$(recorder_of $requests)
         for word in signalled unsignalled timed known two; do
-            timeout 300 "$record" $stream --on-deadlock exit=7 -- ./conditions $word >recorded.out 2>recorded.err
+            timeout 300 "$record" --on-deadlock exit=7 -- ./conditions $word >recorded.out 2>recorded.err
             [ $? -eq 7 ] && [ "$(grep -c '^circle:$' recorded.err)" -eq 1 ] && ! grep -q '^line ' recorded.err &&
-                grep -q '^ seat [1-3] .* waits for "inner" held by seat [1-3] @ conditions.c:7[24]$' recorded.err &&
-                grep -q '^ seat [1-3] holds "outer" @ conditions.c:62$' recorded.err
-            tell hangs "a circle with a wait for a condition: $word $stream" $?
+                grep -q '^ seat [0-9]* .* waits for "inner" held by seat [0-9]* @ conditions.c:7[24]$' recorded.err &&
+                grep -q '^ seat [0-9]* holds "outer" @ conditions.c:62$' recorded.err
+            tell hangs "a circle with a wait for a condition: $word ($requests requests)" $?
         done
-        timeout 300 "$record" $stream --on-deadlock exit=7 -- ./conditions ends >recorded.out 2>recorded.err
+        timeout 300 "$record" --on-deadlock exit=7 -- ./conditions ends >recorded.out 2>recorded.err
         [ $? -eq 0 ] && [ "$(cat recorded.out)" = ended ] &&
             printf '%s\n' "$clean" 'record: nothing to report' | diff - recorded.err
-        tell hangs "a wait for a condition that comes late, while threads wait for what its thread holds $stream" $?
-        timeout 300 "$record" $stream --on-deadlock exit=7 -- ./conditions left >recorded.out 2>recorded.err
+        tell hangs "a wait for a condition that comes late, while threads wait for what its thread holds ($requests requests)" $?
+        timeout 300 "$record" --on-deadlock exit=7 -- ./conditions left >recorded.out 2>recorded.err
         [ $? -eq 0 ] && [ "$(cat recorded.out)" = ended ] && ! grep -q '^circle:$' recorded.err &&
             [ "$(tail -n 1 recorded.err)" = 'record: nothing in what was recorded' ]
-        tell hangs "a wait for a condition that is left by a jump $stream" $?
+        tell hangs "a wait for a condition that is left by a jump ($requests requests)" $?
     done
+    record=$recorder/record
 fi

@@ -26,47 +26,53 @@ goes_on() {
 
 if wanted own; then
     compile hung
-    for stream in "" --full; do
-        hangs_so "$stream" waits 'a thread waited for a lock that it held itself:' ' seat N waited for "pool" @ hung.c:153' \
+    for requests in new all; do
+        record=$(recorder_of $requests)
+        hangs_so "" waits 'a thread waited for a lock that it held itself:' ' seat N waited for "pool" @ hung.c:153' \
             ' seat N holds "journal" @ hung.c:150' ' seat N holds "pool" @ hung.c:151' &&
             grep -q '^record: hung (process [0-9]*) is ended: a thread of it waits for a lock that it holds$' recorded.err &&
             [ "$(tail -n 1 recorded.err)" = 'record: 0 reports, 1 circle, 1 process' ]
-        tell own "a thread that waits for its own mutex is ended ${stream:-}" $?
-        goes_on "$stream" given && grep -q '^a thread waited for a lock that it held itself:$' recorded.err
-        tell own "one that gets it from another thread is not ${stream:-}" $?
+        tell own "a thread that waits for its own mutex is ended ($requests requests)" $?
+        goes_on "" given && grep -q '^a thread waited for a lock that it held itself:$' recorded.err
+        tell own "one that gets it from another thread is not ($requests requests)" $?
     done
+    record=$recorder/record
 fi
 
 if wanted repeats; then
     compile hung
-    for stream in "" --full; do
+    for requests in new all; do
+        record=$(recorder_of $requests)
         for case in repeats both; do
             first=101 second=105
             [ $case = repeats ] || { first=49 && second=43; }
-            hangs_so "--frames 8 $stream" $case circle: ' seat N waits for "pool" held by seat N @ hung.c:43' \
+            hangs_so "--frames 8" $case circle: ' seat N waits for "pool" held by seat N @ hung.c:43' \
                 " seat N waits for \"journal\" held by seat N @ hung.c:$second" \
                 " seat N holds \"pool\" @ hung.c:$first" ' seat N holds "journal" @ hung.c:49' &&
                 grep -q '^record: by now, .*: single locks: both orders, the same locks, threads [0-9]* and [0-9]*$' recorded.err
-            tell repeats "requests with a time limit without an end: $case $stream" $?
+            tell repeats "requests with a time limit without an end: $case ($requests requests)" $?
         done
-        goes_on "--frames 8 $stream" backs && grep -q '^single locks: .*timed: one was asked for with a time limit$' recorded.err
-        tell repeats "a thread that lets its locks go each time $stream" $?
-        goes_on "--frames 8 $stream" gives && grep -q '^single locks: .*timed: one was asked for with a time limit$' recorded.err
-        tell repeats "a thread that asks thrice $stream" $?
+        goes_on "--frames 8" backs && grep -q '^single locks: .*timed: one was asked for with a time limit$' recorded.err
+        tell repeats "a thread that lets its locks go each time ($requests requests)" $?
+        goes_on "--frames 8" gives && grep -q '^single locks: .*timed: one was asked for with a time limit$' recorded.err
+        tell repeats "a thread that asks thrice ($requests requests)" $?
     done
+    record=$recorder/record
 fi
 
 if wanted behind; then
     compile hung
-    for stream in "" --full; do
-        hangs_so "$stream" readers circle: ' seat N waits for "pool" held by seat N @ hung.c:119' \
+    for requests in new all; do
+        record=$(recorder_of $requests)
+        hangs_so "" readers circle: ' seat N waits for "pool" held by seat N @ hung.c:119' \
             ' seat N waits for "table" behind a writer, who waits for seat N @ hung.c:133' \
             ' seat N holds "pool" @ hung.c:130' ' seat N holds "table" @ hung.c:113'
-        tell behind "a reader behind a writer $stream" $?
-        hangs_so "$stream" twice circle: ' seat N waits for "table" behind a writer, who waits for seat N @ hung.c:117' \
+        tell behind "a reader behind a writer ($requests requests)" $?
+        hangs_so "" twice circle: ' seat N waits for "table" behind a writer, who waits for seat N @ hung.c:117' \
             ' seat N holds "table" @ hung.c:113'
-        tell behind "a reader behind a writer who waits for it itself $stream" $?
-        goes_on "$stream" shares
-        tell behind "readers alone $stream" $?
+        tell behind "a reader behind a writer who waits for it itself ($requests requests)" $?
+        goes_on "" shares
+        tell behind "readers alone ($requests requests)" $?
     done
+    record=$recorder/record
 fi

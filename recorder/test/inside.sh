@@ -23,7 +23,7 @@ done
 flags=
 
 example named "locks of one array"
-example named "locks of one array" --full
+writing_all example named "locks of one array"
 
 for words in 0 2 3; do
     example dropped "rights that are given up before the first nested request"
@@ -36,35 +36,36 @@ elif wanted dropped; then
 fi
 words=
 if [ "$(id -u)" -eq 0 ]; then
-    example changed "another user, and more than a window of calls after that" --full
+    writing_all example changed "another user, and more than a window of calls after that"
 elif wanted changed; then
     echo "left out  changed: only root changes its user"
 fi
 
 # What other threads held at a fork is held by nobody in the child: its trace has those locks free.
 example orphans "locks that other threads hold at a fork"
-example orphans "locks that other threads hold at a fork" --full
+writing_all example orphans "locks that other threads hold at a fork"
 if wanted orphans; then
     compile orphans
-    for stream in "" --full; do
-        "$record" $stream -o kept -- ./orphans 2>/dev/null
+    for requests in new all; do
+        record=$(recorder_of $requests)
+        "$record" -o kept -- ./orphans 2>/dev/null
         bad=0
         for trace in kept kept.1; do
             python3 "$here/judge.py" $trace && "$WITNESS" locks <$trace >left && ! grep -q '^seat\|^ ' left || bad=1
         done
         [ "$bad" -eq 0 ]
-        tell orphans "nothing is left held in either trace $stream" $?
+        tell orphans "nothing is left held in either trace ($requests requests)" $?
     done
+    record=$recorder/record
 fi
 
 # Stacks: of requests, of what was held as far as they are known, and through functions that are
 # passed over. A helper that was called a thousand times from one place has no more.
 want=helper.held example helper "callers" --frames 8
 want=helper.held example helper "callers" --frames 3
-want=helper.held example helper "callers" --frames 8 --full
+want=helper.held writing_all example helper "callers" --frames 8
 words=1000
 want=helper.callers example helper "the callers of requests" --frames 8
-want=helper.held example helper "the callers of what is new" --frames 8 --full
 want=helper.held example helper "the callers of what was held" --frames 8 --held-callers
 words=
 want=helper.skip example helper "functions that are passed over" --skip 'cache_*'
@@ -83,16 +84,18 @@ fi
 # Each place has its function, where it has no caller too, and its thread: with the number that the thread itself has told.
 if wanted writers; then
     compile writers
-    for stream in "" --full; do
-        "$record" $stream --frames 8 -- ./writers >recorded.out 2>recorded.err
+    for requests in new all; do
+        record=$(recorder_of $requests)
+        "$record" --frames 8 -- ./writers >recorded.out 2>recorded.err
         for name in reader writer other; do
             number=$(sed -n "s/^$name //p" recorded.out)
             echo "s/, thread $number\\>/, thread $(echo $name | tr a-z A-Z)/"
             echo "/^single/s/\\<$number\\>/$(echo $name | tr a-z A-Z)/"
         done >numbers
         sed -f numbers recorded.err | diff "$here/writers.want" -
-        tell writers "the functions and threads of a report's places $stream" $?
+        tell writers "the functions and threads of a report's places ($requests requests)" $?
     done
+    record=$recorder/record
     "$record" --frames 1 -- ./writers >recorded.out 2>recorded.err
     sed '/^callers:/,/^  collect/d; /^single/d' "$here/writers.want" | diff - recorded.err
     tell writers "none with one frame" $?
@@ -101,9 +104,9 @@ fi
 # Locks of the program's own, annotated.
 for flags in -O0 -O2; do
     example futex "locks on futexes"
-    example futex "locks on futexes" --full
+    writing_all example futex "locks on futexes"
     example atomics "locks on std::atomic, by C++'s guards"
-    example atomics "locks on std::atomic, by C++'s guards" --full
+    writing_all example atomics "locks on std::atomic, by C++'s guards"
 done
 flags=
 
@@ -112,31 +115,37 @@ if wanted jump; then
     "$record" -- true 2>/dev/null
     compile jump
     for way in 0 1 2 3; do
-        for stream in "" --full; do
-            timeout -s KILL 100 "$record" $stream -- ./jump $way 2>recorded.err
+        for requests in new all; do
+            record=$(recorder_of $requests)
+            timeout -s KILL 100 "$record" -- ./jump $way 2>recorded.err
             # The third way has the order in another line.
             sed 's/process [0-9]*/process N/; s/ @ jump.c:54$/ @ jump.c:23/' recorded.err | diff "$here/jump.want" -
-            tell jump "a call that is left, way $way $stream" $?
+            tell jump "a call that is left, way $way ($requests requests)" $?
         done
+        record=$recorder/record
     done
 fi
 
 # A call that counts as left, and goes on.
 if wanted switched; then
     compile switched
-    for stream in '' --full; do
-        timeout -s KILL 100 "$record" $stream -- ./switched 2>&1 | sed 's/process [0-9]*/process N/' | diff "$here/switched.want" -
-        tell switched "a handler that changes to another stack and back $stream" $?
+    for requests in new all; do
+        record=$(recorder_of $requests)
+        timeout -s KILL 100 "$record" -- ./switched 2>&1 | sed 's/process [0-9]*/process N/' | diff "$here/switched.want" -
+        tell switched "a handler that changes to another stack and back ($requests requests)" $?
     done
+    record=$recorder/record
 fi
 
 # The duty of the condensed stream: each request behind held locks is written, or one like it was.
 if wanted duty; then
     compile condhang
-    for stream in "" --full; do
-        "$record" $stream -- timeout -s KILL 4 ./condhang 2>&1 | diff "$here/condhang.want" -
-        tell duty "a wait for a condition whose mutex never comes back $stream" $?
+    for requests in new all; do
+        record=$(recorder_of $requests)
+        "$record" -- timeout -s KILL 4 ./condhang 2>&1 | diff "$here/condhang.want" -
+        tell duty "a wait for a condition whose mutex never comes back ($requests requests)" $?
     done
+    record=$recorder/record
     compile madeup
     "$record" -o kept -- ./madeup 2>/dev/null
     [ "$(grep -c '^check' kept)" -eq 6 ] && ! grep '^try' kept
@@ -274,8 +283,8 @@ if wanted small; then
     done
     "$record" -- ./small $((size + 512)) 2>&1 | diff "$here/small.want" -
     tell small "a handler on a small stack" $?
-    "$record" --full -- ./small $((size + 512)) 2>&1 | diff "$here/small.want" -
-    tell small "a handler on a small stack (--full)" $?
+    "$(recorder_of all)" -- ./small $((size + 512)) 2>&1 | diff "$here/small.want" -
+    tell small "a handler on a small stack (all requests)" $?
     "$record" --frames 8 -- ./small $((size + 512)) 2>recorded.err
     grep -q '^  handle (small.c:18)$' recorded.err && grep -q '^  main (small.c:32)$' recorded.err
     tell small "its callers" $?

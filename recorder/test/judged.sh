@@ -9,13 +9,14 @@ is_accepted() {
 }
 
 if wanted judged; then
+    all=$(recorder_of all)
     for line in again anew atomics between c11 cancel condhang condition "conditions ends" contend \
         crowd cycle deadlock "dropped 2" ending forking forks "full 20000 reversal" futex guards \
         handover helper inlined "jump 0" "jump 1" "jump 2" keepers kinds late long named orphans \
         "pairs 4 2 1000" philosophers recursive reused reversal rwlock signals started threads \
         tryfirst trysecond trythen varying varyings with; do
         compile ${line%% *}
-        recorded_by "$record" --full --judge -- timeout -s KILL "$(limit_of $line)" ./$line
+        recorded_by "$all" --judge -- timeout -s KILL "$(limit_of $line)" ./$line
         is_accepted
         tell judged "$line" $?
     done
@@ -24,21 +25,21 @@ if wanted judged; then
     compile closed
     for line in "atfork 12" "clash both" closed "closed back" "crash 2" crew slow; do
         [ -x "${line%% *}" ] || compile ${line%% *}
-        recorded_by "$record" --full --judge -- timeout -s KILL "$(limit_of $line)" ./$line
+        recorded_by "$all" --judge -- timeout -s KILL "$(limit_of $line)" ./$line
         is_accepted
         tell judged "$line" $?
     done
     # A mutex whose holder has ended is still that one's in the trace, and another thread gets it.
     compile odd
-    recorded_by "$record" --full --judge -- ./odd
+    recorded_by "$all" --judge -- ./odd
     said 0 'odd: judged: line [0-9]*: F35 RawNotFree: .* gets "robust(mutex)<main()", .* @ odd.c:46$'
     tell judged "odd, whose robust mutex is got when its holder has ended, is refused there" $?
     drop_kept
     for program in between reversal recursive; do
         compile $program
-        recorded_by "$record" --full --profile all --judge -o kept -- ./$program
+        recorded_by "$all" --judge -o kept -- ./$program
         is_accepted && [ "$(sed -n 2p kept)" = "profile all" ]
-        tell judged "$program, in the all-held profile" $?
+        tell judged "$program, whose trace compares all held locks" $?
     done
     "$record" -- true 2>/dev/null
     object=$recorder/out/recorder.so
@@ -54,7 +55,7 @@ if wanted judged; then
     compile contend -O1
     caught=1
     plant overlapping && for run in $(seq 60); do
-        recorded_by overlapping/record --full --judge -- ./contend
+        recorded_by overlapping/record --judge -- ./contend
         drop_kept
         grep -q 'judged: line [0-9]*: F35 RawNotFree: seat [0-9]* gets ' recorded.err &&
             caught=0 && break
@@ -62,8 +63,7 @@ if wanted judged; then
     tell judged "a recorder that writes unlock too late is told of" $caught
 fi
 
-# What is asked for behind a try has an order behind each held lock in this profile alone.
-want=between.plain example between "three locks, one by a try, in the plain profile" --full
-example between "three locks, one by a try, in the all-held profile" --full --profile all
-example between "three locks, one by a try, in the all-held profile" --profile all
-example philosophers "five philosophers" --full --profile all
+# What is asked for after a try has an order after each held lock.
+writing_all example between "three locks, one by a try"
+example between "three locks, one by a try"
+writing_all example philosophers "five philosophers"

@@ -4,8 +4,8 @@
 # lasting_names WORDS..: the lasting names of the types of a run of these words, sorted.
 lasting_names() {
     rm -rf records && mkdir records
-    env RECORDER_DIRECTORY="$work/records" RECORDER_STREAMS=full LD_PRELOAD="$recorder/out/recorder.so" "$@" >/dev/null 2>&1
-    ./resolved types "$(echo records/*.0.full)" >types && cut -f 1 types | LC_ALL=C sort -u
+    env RECORDER_DIRECTORY="$work/records" LD_PRELOAD="$(object_of all)" "$@" >/dev/null 2>&1
+    ./resolved types "$(echo records/*.0)" >types && cut -f 1 types | LC_ALL=C sort -u
 }
 
 # told_names WORDS..: what the reports of a run of these words call types, and the locks that they are of, without numbers,

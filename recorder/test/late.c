@@ -1,4 +1,7 @@
-/* A lock whose forerunner is released by the time that it is written: it has no order behind the one before that. */
+/*
+ * A lock that is written when the one taken just before it, by a try, is released already. It was asked for while the first one
+ * was held: that is an order.
+ */
 #include <pthread.h>
 
 static pthread_mutex_t file = PTHREAD_MUTEX_INITIALIZER;

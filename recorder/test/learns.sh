@@ -100,8 +100,8 @@ END
     echo '"pool" "journal"' >peace
     rm -f ORDERS* && learnt 0 --learn ORDERS --ignore peace -- ./reversal && [ ! -s ORDERS ]
     tell learns "orders that the user allows aren't learnt" $?
-    rm -f ORDERS* && learnt 1 --learn ORDERS --full -- ./reversal && cmp ORDERS before
-    tell learns "with every call" $?
+    rm -f ORDERS* && writing_all learnt 1 --learn ORDERS -- ./reversal && diff ORDERS before
+    tell learns "of all requests" $?
 
     # Without debug information, and without a build-id.
     rm -f ORDERS*

@@ -7,7 +7,7 @@
 #include <stdlib.h>
 #include <time.h>
 
-enum { DEEPEST = 8, MOST = 64 };
+enum { DEEPEST = 32, MOST = 64 };
 
 static int depth, rounds;
 static pthread_barrier_t begin, end;

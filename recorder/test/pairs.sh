@@ -1,26 +1,60 @@
-# Tests that the condensed stream tells of what the program asks for: read by `run`, whose functions it uses. Laws carry
-# what is promised of a clean recording to the run: see docs/PROOFS.md. What they rest on is that the run asks for nothing
-# but what its recording tells of, and that is what is tested here, of both streams of one run.
+# Tests that the stream tells of what the program asks for: read by `run`, whose functions it uses. Laws carry what is promised
+# of a clean recording to the run: see docs/PROOFS.md. What they rest on is that the run asks for nothing but what its recording
+# tells of, and that is what is tested here, by a recorder that writes each request, and marks those that may be left out.
 
-# tells_all WORDS..: of each process of the program both streams tell of the same pairs of types, and there are some.
-tells_all() {
+# streams_of OBJECT WORDS..: leaves the files of a run, those with lines alone.
+streams_of() {
+    loaded=$1
+    shift
     rm -rf records && mkdir records
-    env RECORDER_DIRECTORY="$work/records" RECORDER_STREAMS=both RECORDER_FRAMES=1 LD_PRELOAD="$object" \
+    env RECORDER_DIRECTORY="$work/records" RECORDER_FRAMES=1 LD_PRELOAD="$loaded" \
         timeout -s KILL "$(limit_of "${1#./}")" "$@" >/dev/null 2>&1
-    any=
-    for full in records/*.full; do
-        [ -n "$(head -c 1 "$full" | tr -d '\000')" ] || continue
-        "$record" --trace "$full" 2>/dev/null | python3 "$here/pairs.py" | sort -u >full.pairs
-        "$record" --trace "${full%.full}" 2>/dev/null | python3 "$here/pairs.py" | sort -u >condensed.pairs
-        [ ! -s full.pairs ] || any=yes
-        diff condensed.pairs full.pairs || return 1
+    find records -type f -name '[0-9]*.[0-9]*' | while read -r file; do
+        [ -n "$(head -c 1 "$file" | tr -d '\000')" ] || rm "$file"
     done
-    [ -n "$any" ]
+}
+
+# pairs_of FILES..: the pairs of types that they tell of.
+pairs_of() {
+    for file in "$@"; do
+        "$record" --trace "$file" 2>/dev/null | python3 "$here/pairs.py"
+    done | sort -u
+}
+
+# leaves_out_nothing_new WORDS..: of each process of the program each pair is told of by a request that isn't left out.
+leaves_out_nothing_new() {
+    streams_of "$whole" "$@"
+    for file in records/[0-9]*; do
+        tr -d '\000' <"$file" | python3 "$here/pairs.py" marked
+    done >left_out
+    diff /dev/null left_out
+}
+
+# tells_all WORDS..: the recorder's own files tell of the pairs that another run asks for, and there are some.
+tells_all() {
+    leaves_out_nothing_new "$@" || return 1
+    pairs_of records/[0-9]* >full.pairs
+    streams_of "$object" "$@"
+    pairs_of records/[0-9]* >condensed.pairs
+    diff condensed.pairs full.pairs && [ -s full.pairs ]
+}
+
+# random_runs COMMAND..: whether it holds of a hundred random runs.
+random_runs() {
+    missing=
+    seed=1
+    while [ $seed -le 50 ]; do
+        for kind in clean mixed; do
+            "$1" ./random $seed $kind $2 || missing="$missing $kind $seed"
+        done
+        seed=$((seed + 1))
+    done
+    [ -z "$missing" ]
 }
 
 if wanted tells; then
-    "$record" -- true 2>/dev/null
-    object=$recorder/out/recorder.so
+    object=$(object_of new)
+    whole=$(object_of all)
     for line in anew between c11 cancel condition contend crew cycle deadlock "dropped 2" "ending 0" forking forks futex guards \
         handover helper inlined "jump 0" keepers kinds late madeup condhang long moved "moved try" named odd "pairs 4 2 1000" philosophers recursive \
         reused reversal rwlock signals started threads tryfirst trysecond trythen varying varyings with; do
@@ -30,32 +64,38 @@ if wanted tells; then
         tell tells "$line" $?
     done
     compile random -O1
-    missing=
-    seed=1
-    while [ $seed -le 50 ]; do
-        for kind in clean mixed; do
-            tells_all ./random $seed $kind || missing="$missing $kind $seed"
-        done
-        seed=$((seed + 1))
-    done
-    [ -z "$missing" ]
+    random_runs leaves_out_nothing_new
     tell tells "a hundred random runs${missing:+: not$missing}" $?
-    # One that doesn't write a request behind just two held locks.
+    random_runs tells_all turns
+    tell tells "a hundred random runs of one thread after the other${missing:+: not$missing}" $?
+    # One that doesn't write a request after just two held locks.
     copy_recorder omitting
-    sed 's/if (nested && (request->patient || !node_is_requested(request->node)))$/if (nested \&\& thread->count != 2 \&\& (request->patient || !node_is_requested(request->node)))/' \
-        "$recorder/write.c" >omitting/write.c
-    ! cmp -s "$recorder/write.c" omitting/write.c && omitting/record -- true 2>/dev/null
+    sed 's/^    uint32_t asked = type_number(type);$/&\n    if (thread->count == 2)\n        return true;/' "$recorder/quick.h" >omitting/quick.h
+    ! cmp -s "$recorder/quick.h" omitting/quick.h && omitting/record -- true 2>/dev/null
     planted=$?
     object=$work/omitting/out/recorder.so
-    [ $planted -eq 0 ] && tells_all ./pairs 4 2 1000 >/dev/null && ! tells_all ./random 1 clean >/dev/null
+    [ $planted -eq 0 ] && tells_all ./pairs 4 2 1000 >/dev/null && ! tells_all ./random 1 clean turns >/dev/null
     tell tells "a recorder that leaves a request out is caught" $?
+    # One that leaves out the fifth line of a kind.
+    copy_recorder lacking
+    sed 's/^    const char \*from = stream.line;$/&\n    static int left = 5;\n    const char *kind = getenv("LEFT_OUT");\n    if (kind \&\& strncmp(from, kind, strlen(kind)) == 0 \&\& --left == 0) {\n        stream.length = 0;\n        return;\n    }/' \
+        "$recorder/stream.c" >lacking/stream.c
+    ! cmp -s "$recorder/stream.c" lacking/stream.c && lacking/record -- true 2>/dev/null
+    planted=$?
+    object=$work/lacking/out/recorder.so
+    record_both ./random 1 clean turns && both_agree
+    tell tells "a recorder that leaves out none of a kind agrees" $?
+    for kind in check lock try unlock giveup init type; do
+        [ $planted -eq 0 ] && record_one "$object" condensed.trace env LEFT_OUT="$kind " ./random 1 clean turns
+        ! both_agree >/dev/null 2>&1
+        tell tells "one that leaves out a line of the kind $kind is caught" $?
+    done
     object=$recorder/out/recorder.so
 fi
 
 # A lock that stands after another one than it was asked for after, since that one was released first.
 if wanted moved; then
-    "$record" -- true 2>/dev/null
-    object=$recorder/out/recorder.so
+    object=$(object_of new)
     compile moved
     record_both ./moved try && both_agree && grep -q '^lock order reversal' full.reports
     tell moved "with a try both streams have the report" $?
@@ -69,37 +109,6 @@ if wanted moved; then
     tell moved "a report that was told before the first try is told once" $?
 fi
 
-# A tree of chains that is full at once: the same pairs are told, a clean run has the same orders and a mixed one the same
-# first report, and what is asked for again adds nothing.
-if wanted full_tree; then
-    copy_recorder small
-    sed 's/^#define NODES (1u << 18)$/#define NODES (1u << 5)/' "$recorder/recorder.h" >small/recorder.h
-    ! cmp -s "$recorder/recorder.h" small/recorder.h && small/record -- true 2>/dev/null
-    tell full_tree "a small tree is built" $?
-    object=$work/small/out/recorder.so
-    compile random -O1
-    missing=
-    for seed in 1 2 3 4 5 6 7 8 9 10 11 12; do
-        for kind in clean mixed; do
-            rm -f condensed.first full.first differ
-            tells_all ./random $seed $kind && record_both ./random $seed $kind && { both_agree || [ $kind = mixed ]; } >differ &&
-                cmp condensed.first full.first && continue
-            missing="$missing $kind $seed"
-            cat differ 2>/dev/null
-            keep "full_tree-$kind-$seed"
-        done
-    done
-    [ -z "$missing" ]
-    tell full_tree "random runs${missing:+: not$missing}" $?
-    compile triples
-    for rounds in 1 5; do
-        record_both ./triples $rounds && both_agree && grep -c '' condensed.trace
-    done >lines
-    [ "$(wc -l <lines)" -eq 2 ] && [ "$(sort -u lines | wc -l)" -eq 1 ] || { cat lines; false; }
-    tell full_tree "what is asked for again adds nothing" $?
-    # Two of its locks are taken both ways, and of one way nothing is told any more.
-    RECORD_FRAMES=8 small/record --quiet -- ./triples 2>&1 | sed -n 's/^single locks: //p' >below
-    echo 'not known, there were more orders of such locks than are kept' | diff - below
-    tell full_tree "of single locks nothing is known" $?
-    object=$recorder/out/recorder.so
-fi
+# A request that was reported teaches no order: what it asks for after one lock alone is written once more.
+example alone "an order that a reported request has, too"
+writing_all example alone "an order that a reported request has, too"

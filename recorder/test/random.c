@@ -1,5 +1,6 @@
 /*
- * random SEED clean|mixed: threads that take and release locks of every kind at random, and end.
+ * random SEED clean|mixed [turns]: threads that take and release locks of every kind at random, and end. With `turns` each one
+ * begins when the one before it has ended, so that each run is like any other.
  *
  * Locks have ranks. A thread that asks for a lock below or beside one that it holds doesn't wait for it for ever: in a
  * clean run it only tries, so that no order is ever reversed; in a mixed one it may wait for a moment.
@@ -201,7 +202,8 @@ int main(int count, char **words)
 {
     pthread_t ids[THREADS];
     struct thread threads[THREADS] = {0};
-    if (count != 3)
+    bool turns = count == 4 && strcmp(words[3], "turns") == 0;
+    if (count != 3 && !turns)
         return 2;
     clean = strcmp(words[2], "clean") == 0;
     make_locks();
@@ -211,8 +213,10 @@ int main(int count, char **words)
         threads[i].shelf = shelf[i];
         threads[i].seed = (unsigned)(atoi(words[1]) * THREADS + i);
         pthread_create(&ids[i], NULL, run, &threads[i]);
+        if (turns)
+            pthread_join(ids[i], NULL);
     }
-    for (int i = 0; i < THREADS; i++)
+    for (int i = 0; i < THREADS && !turns; i++)
         pthread_join(ids[i], NULL);
     return 0;
 }

@@ -16,7 +16,7 @@ record_stream() {
     shift
     "$record" -- true 2>/dev/null
     rm -rf records && mkdir records
-    env RECORDER_DIRECTORY="$work/records" RECORDER_STREAMS=condensed RECORDER_FRAMES="$frames" \
+    env RECORDER_DIRECTORY="$work/records" RECORDER_FRAMES="$frames" \
         LD_PRELOAD="$recorder/out/recorder.so" "$@" && cat records/*.0 >stream
 }
 

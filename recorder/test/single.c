@@ -92,6 +92,29 @@ static void *read_both(void *argument)
     return NULL;
 }
 
+/* The first lock as a reader, and the second one not. */
+static void *read_and_write(void *argument)
+{
+    struct both *both = argument;
+    pthread_rwlock_rdlock(both->first);
+    pthread_rwlock_wrlock(both->second);
+    pthread_rwlock_unlock(both->second);
+    pthread_rwlock_unlock(both->first);
+    wait_for_all();
+    return NULL;
+}
+
+/* The gate as a reader: it keeps nobody else out. */
+static void *take_among_readers(void *argument)
+{
+    struct both *both = argument, inner = {both->first, both->second, NULL};
+    pthread_rwlock_rdlock(both->gate);
+    take(&inner);
+    pthread_rwlock_unlock(both->gate);
+    wait_for_all();
+    return NULL;
+}
+
 /* One thread after the other takes its locks, and all of them end after that. */
 static void run(void *(*function[])(void *), struct both *both, int count)
 {
@@ -261,10 +284,10 @@ static void try_waits(void *(*function)(void *), struct both *both, struct both 
     pthread_join(thread, NULL);
 }
 
-static void try_readers(void)
+static void try_readers(void *(*function)(void *))
 {
     static pthread_rwlock_t table = PTHREAD_RWLOCK_INITIALIZER, index = PTHREAD_RWLOCK_INITIALIZER;
-    run_two(read_both, read_both, (struct both){&table, &index, NULL}, (struct both){&index, &table, NULL});
+    run_two(function, function, (struct both){&table, &index, NULL}, (struct both){&index, &table, NULL});
 }
 
 int main(int count, char **words)
@@ -296,7 +319,14 @@ int main(int count, char **words)
     if (strcmp(how, "timed") == 0)
         run_two(take_both, take_for_a_time, there, back);
     if (strcmp(how, "readers") == 0)
-        try_readers();
+        try_readers(read_both);
+    if (strcmp(how, "writers") == 0)
+        try_readers(read_and_write);
+    if (strcmp(how, "read-gate") == 0) {
+        static pthread_rwlock_t door = PTHREAD_RWLOCK_INITIALIZER;
+        there.gate = back.gate = &door;
+        run_two(take_among_readers, take_among_readers, there, back);
+    }
     if (strcmp(how, "many") == 0)
         try_many();
     if (strcmp(how, "three") == 0)

@@ -109,7 +109,7 @@ fi
 if wanted dashes; then
     mkdir -p alone && cd alone || exit 4
     for option in -o --learn --graph --html --json --sarif --log-file; do
-        for name in -- - --full; do
+        for name in -- - --quiet; do
             recorded_by "$record" $option $name -- echo ran
             said 2 "^record: $option takes a file, and $name begins with -: ./$name is a file of that name" && [ ! -s recorded.out ]
             tell dashes "$option $name" $?

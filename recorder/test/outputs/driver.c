@@ -87,7 +87,7 @@ static void tell_line(int which, const char *line)
 static void add_frames(struct notes *notes, char **field, size_t fields)
 {
     struct frames *frames = &ADD(notes->frames, notes->framed, notes->frames_room);
-    *frames = (struct frames){take(fields * sizeof *frames->frame), fields / 2};
+    *frames = (struct frames){.frame = take(fields * sizeof *frames->frame), .count = fields / 2};
     for (size_t i = 0; i + 1 < fields; i += 2)
         frames->frame[i / 2] = (struct frame){strcmp(field[i], "-") == 0 ? NULL : copy(field[i]), copy(field[i + 1])};
 }

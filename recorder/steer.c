@@ -1,0 +1,572 @@
+/*
+ * Where a steered run pauses (steer.h).
+ *
+ * A thread that holds a lock and asks for another at a place of the plan stands there before the real call. Where those that
+ * stand wait for one another in a circle, by what they want and what they hold, all of them are let go: they really hang by
+ * then. Else a pause ends by itself: after some milliseconds, half as many after every four in vain, and at most a second
+ * and a half at one place. It ends early where another thread waits for a mutex of the paused one, which then is in its way.
+ *
+ * A thread may be held back before its first lock, too, until another one stands at an order of the plan: so orders that
+ * are made at different times come together.
+ *
+ * Threads stand in one table under the recorder's mutex, which is never held while they wait. What a standing thread holds
+ * is read from its chain: it is in its call, and its chain stays as it is.
+ */
+#include "steer.h"
+
+#include "plan.h"
+#include "quick.h"
+
+#include <errno.h>
+#include <fcntl.h>
+#include <limits.h>
+#include <linux/futex.h>
+#include <sched.h>
+#include <stdlib.h>
+#include <string.h>
+#include <sys/mman.h>
+#include <sys/stat.h>
+#include <sys/syscall.h>
+#include <unistd.h>
+#include <unwind.h>
+
+enum {
+    STANDING = 64,
+    PAUSES = 64,        /* in vain, at one place and in one run; and so many milliseconds all of them */
+    CUTS = 20 * PAUSES, /* that ended early */
+    SPENT_MS = 1500,
+    HALVED = 4, /* after so many in vain the next is half as long */
+    LOOK_MS = 5,
+    MOMENT_US = 1500, /* a thread that was woken, but hasn't run yet, doesn't sleep */
+    NOISE_MS = 1500,  /* of all pauses at random of a thread */
+};
+
+enum where { AT_ASK, AT_HOLD, AT_WAIT };
+
+struct standing {
+    const struct thread *thread; /* NULL where the record is free */
+    const struct lock *wanted;
+    uint8_t mode;
+    enum where where;
+    uint32_t order;
+    uint32_t number;     /* of its pause, among all that have begun; 0 before it has */
+    _Atomic uint32_t go; /* the word that the thread sleeps on */
+};
+
+/* What was spent at a place. */
+struct budget {
+    uint32_t vain, cut, spent_ms;
+};
+
+bool steers;
+static struct plan *plan;
+static struct standing standing[STANDING];
+static struct budget before_ask[PLAN_ORDERS], before_hold[PLAN_ORDERS];
+static uint32_t made_before; /* how many threads had been made when the process began */
+/* Where this thread stands while it waits for a condition. */
+static __thread struct standing *waits_at __attribute__((tls_model("initial-exec")));
+static __thread uint32_t noise_spent __attribute__((tls_model("initial-exec")));
+static __thread uint32_t noise_seed __attribute__((tls_model("initial-exec")));
+
+static bool is_sound(const struct plan *read)
+{
+    return read->mark == PLAN_MARK && read->bytes == sizeof *read && read->orders <= PLAN_ORDERS;
+}
+
+/* To who looks on. */
+static void process_shown(void)
+{
+    plan->words_from = (uintptr_t)standing;
+    plan->words_to = (uintptr_t)(standing + STANDING);
+    atomic_store(&plan->process, getpid());
+    atomic_fetch_add(&plan->processes, 1);
+}
+
+void steer_begins(void)
+{
+    const char *path = secure_getenv("RECORDER_PLAN");
+    struct stat found;
+    int file = path && *path ? open(path, O_RDWR | O_CLOEXEC) : -1;
+    if (file < 0)
+        return;
+    void *mapped = MAP_FAILED;
+    if (fstat(file, &found) == 0 && found.st_size == (off_t)sizeof *plan)
+        mapped = mmap(NULL, sizeof *plan, PROT_READ | PROT_WRITE, MAP_SHARED, file, 0);
+    close(file);
+    if (mapped == MAP_FAILED)
+        return;
+    if (!is_sound(mapped)) {
+        munmap(mapped, sizeof *plan);
+        return;
+    }
+    own_memory(mapped, sizeof *plan);
+    plan = mapped;
+    steers = true;
+    process_shown();
+}
+
+bool steer_is_everywhere(void)
+{
+    return steers && plan->noise_ms > 0;
+}
+
+/* Its places. */
+
+static bool is_code(const struct place *place, const struct plan_code *code)
+{
+    if ((place->file != NULL) != (code->is_named != 0))
+        return false;
+    if (place->file)
+        return place->offset == code->offset && strncmp(place->file, code->name, sizeof code->name) == 0;
+    if (!place->object || place->offset - 1 != code->offset)
+        return false;
+    const char *path = object_path(place->object), *slash = strrchr(path, '/');
+    return strncmp(slash ? slash + 1 : path, code->name, sizeof code->name) == 0;
+}
+
+static bool is_frame(const struct place *place, const struct plan_frame *frame)
+{
+    if (!place->library)
+        return !*frame->rest.name && is_code(place, &frame->code);
+    return *frame->rest.name && is_code(place_at(place->library), &frame->code)
+        && is_code(place_at(place->rest), &frame->rest);
+}
+
+static bool is_first_of(const struct plan_chain *chain, const struct place *place)
+{
+    return chain->frames > 0 && is_frame(place, &chain->frame[0]);
+}
+
+void steer_place(struct place *place)
+{
+    if (place->detour >= DETOUR_LIBRARY)
+        return;
+    for (uint32_t i = 0; i < plan->orders; i++)
+        if (is_first_of(&plan->order[i].ask, place) || is_first_of(&plan->order[i].hold, place))
+            place->detour = DETOUR_PLANNED;
+}
+
+static bool is_chain(const struct plan_chain *chain, const uint32_t *found, uint32_t count)
+{
+    if (chain->frames == 0 || chain->frames > count)
+        return false;
+    for (uint32_t i = 0; i < chain->frames; i++)
+        if (!found[i] || !is_frame(place_at(found[i]), &chain->frame[i]))
+            return false;
+    return true;
+}
+
+static void count_met(struct plan_met *met)
+{
+    int32_t thread = (int32_t)syscall(SYS_gettid), known = 0;
+    atomic_fetch_add(&met->times, 1);
+    if (!atomic_compare_exchange_strong(&met->thread, &known, thread) && known != thread)
+        atomic_store(&met->thread, PLAN_SEVERAL_THREADS);
+}
+
+/* The orders of the plan that the request is in: PLAN_ORDERS where it is in none. */
+struct arrival {
+    uint32_t ask, hold;
+};
+
+static struct arrival arrives(const struct request *request)
+{
+    struct arrival arrival = {PLAN_ORDERS, PLAN_ORDERS};
+    uint32_t found[PLAN_FRAMES];
+    if (!request->place || detour_at(request->place) != DETOUR_PLANNED || request->again)
+        return arrival;
+    uint32_t count = callers(request->caller, PLAN_FRAMES, found);
+    for (uint32_t i = plan->orders; i-- > 0;) {
+        struct plan_order *order = &plan->order[i];
+        if (request->thread->count > 0 && is_chain(&order->ask, found, count)) {
+            count_met(&order->asked);
+            arrival.ask = i;
+        }
+        if (is_chain(&order->hold, found, count)) {
+            count_met(&order->held);
+            if (order->holds_back)
+                arrival.hold = i;
+        }
+    }
+    return arrival;
+}
+
+/* Who may pause. */
+
+struct walk {
+    bool is_signal;
+};
+
+static _Unwind_Reason_Code look_at(struct _Unwind_Context *context, void *argument)
+{
+    struct walk *walk = argument;
+    int is_before = 0;
+    _Unwind_GetIPInfo(context, &is_before);
+    walk->is_signal |= is_before != 0;
+    return walk->is_signal ? _URC_END_OF_STACK : _URC_NO_REASON;
+}
+
+static void look_back(void *walk)
+{
+    _Unwind_Backtrace(look_at, walk);
+}
+
+static bool is_in_handler(void)
+{
+    struct walk walk = {false};
+    if (atomic_load_explicit(&has_handlers, memory_order_relaxed))
+        aside(look_back, &walk);
+    return walk.is_signal;
+}
+
+static bool spins(const struct thread *thread)
+{
+    for (uint32_t i = 0; i < thread->count; i++) {
+        enum class class = thread->held[i].lock->type->class;
+        if (class == SPIN || class == SHARED_SPIN)
+            return true;
+    }
+    return false;
+}
+
+/* In a child of fork that has made no thread there is nobody to wait for, as anywhere. */
+static bool may_pause(const struct thread *thread)
+{
+    int policy = sched_getscheduler(0);
+    return atomic_load(&threads_made_and_joined) != made_before && policy != SCHED_FIFO && policy != SCHED_RR
+        && !spins(thread) && !is_in_handler();
+}
+
+/* The table. All of these under the mutex. */
+
+static struct standing *stands(const struct request *request, enum where where, uint32_t order)
+{
+    for (struct standing *free = standing; free < standing + STANDING; free++)
+        if (!free->thread) {
+            free->thread = request->thread;
+            free->wanted = request->lock;
+            free->mode = request->mode;
+            free->where = where;
+            free->order = order;
+            free->number = 0;
+            atomic_store(&free->go, 0);
+            return free;
+        }
+    return NULL;
+}
+
+static void futex(_Atomic uint32_t *word, int what, uint32_t value, const struct timespec *time)
+{
+    syscall(SYS_futex, word, what, value, time, NULL, 0);
+}
+
+static void let_go(struct standing *one)
+{
+    atomic_store(&one->go, 1);
+    futex(&one->go, FUTEX_WAKE_PRIVATE, 1, NULL);
+}
+
+/* Whether the one waits for the other as long as that one keeps what it holds. */
+static bool is_waited_for(const struct standing *one, const struct thread *other)
+{
+    for (uint32_t i = 0; i < other->count; i++) {
+        const struct held *held = &other->held[i];
+        if (held->lock == one->wanted && !(held->mode == SHARED && one->mode == SHARED)
+            && held->lost == atomic_load(&held->lock->lost))
+            return true;
+    }
+    return false;
+}
+
+/* Whether from the one a way leads to the last one, by who waits for whom. All on the way are let go. */
+static bool comes_round(struct standing *one, const struct standing *last, uint64_t *seen)
+{
+    for (struct standing *next = standing; next < standing + STANDING; next++) {
+        uint64_t bit = (uint64_t)1 << (next - standing);
+        if (!next->thread || next->where == AT_HOLD || (*seen & bit) || !is_waited_for(one, next->thread))
+            continue;
+        *seen |= bit;
+        if (next == last || comes_round(next, last, seen)) {
+            let_go(next);
+            return true;
+        }
+    }
+    return false;
+}
+
+static bool closes_circle(struct standing *one)
+{
+    uint64_t seen = 0;
+    return comes_round(one, one, &seen);
+}
+
+/* Those that are held back until a thread stands at another order and wants their lock. */
+static void let_go_for(const struct standing *one)
+{
+    for (struct standing *other = standing; other < standing + STANDING; other++)
+        if (other->thread && other->where == AT_HOLD && other->order != one->order && other->wanted == one->wanted)
+            let_go(other);
+}
+
+/* Whether a thread stands at another order and wants the lock, or is held back there: then that one goes, too. */
+static bool has_partner(const struct request *request, uint32_t order)
+{
+    bool found = false;
+    for (struct standing *other = standing; other < standing + STANDING; other++) {
+        if (!other->thread || other->order == order || other->thread == request->thread)
+            continue;
+        if (other->where != AT_HOLD) {
+            found |= other->wanted == request->lock;
+        } else if (other->wanted != request->lock) {
+            let_go(other);
+            found = true;
+        }
+    }
+    return found;
+}
+
+/* Pauses. */
+
+static uint64_t milliseconds(void)
+{
+    struct timespec now;
+    clock_gettime(CLOCK_MONOTONIC, &now);
+    return (uint64_t)now.tv_sec * 1000 + (uint64_t)now.tv_nsec / 1000000;
+}
+
+static uint32_t pause_of(const struct budget *budget, uint32_t first)
+{
+    if (first == 0 || budget->vain >= PAUSES || budget->cut >= CUTS || budget->spent_ms >= SPENT_MS)
+        return 0;
+    uint32_t length = budget->vain / HALVED < 16 ? first >> budget->vain / HALVED : 0;
+    uint32_t left = SPENT_MS - budget->spent_ms;
+    length = length ? length : 1;
+    return length < left ? length : left;
+}
+
+static bool is_contended(const struct lock *lock)
+{
+    uintptr_t address = atomic_load(&lock->address);
+    if (lock->type->class != MUTEX || address == 0)
+        return false;
+    return *(const volatile int *)&((const pthread_mutex_t *)address)->__data.__lock == 2;
+}
+
+static bool is_in_the_way(const struct thread *thread)
+{
+    for (uint32_t i = 0; i < thread->count; i++)
+        if (is_contended(thread->held[i].lock))
+            return true;
+    return false;
+}
+
+static void sleep_on(_Atomic uint32_t *word, uint64_t microseconds)
+{
+    struct timespec time = {(time_t)(microseconds / 1000000), (long)(microseconds % 1000000 * 1000)};
+    int before = errno;
+    futex(word, FUTEX_WAIT_PRIVATE, 0, &time);
+    errno = before;
+}
+
+enum pause { LET_GO, IN_VAIN, CUT_SHORT };
+
+/* Of all pauses that go on, it has gone on for the longest. */
+static bool is_oldest(const struct standing *one)
+{
+    bool is = recorder_enters();
+    for (const struct standing *other = standing; is && other < standing + STANDING; other++)
+        if (other->thread && other->number != 0 && other->number < one->number) {
+            recorder_leaves();
+            return false;
+        }
+    if (is)
+        recorder_leaves();
+    return is;
+}
+
+/*
+ * Nothing has begun since all threads were seen to sleep. One that is woken by then gets a moment to run. Then one pause
+ * ends, the oldest: what it lets go on may come to the others.
+ */
+static bool all_sleep(struct standing *one)
+{
+    if (atomic_load(&plan->all_sleep) != atomic_load(&plan->begun) || !is_oldest(one))
+        return false;
+    sleep_on(&one->go, MOMENT_US);
+    return !atomic_load(&one->go) && atomic_load(&plan->all_sleep) == atomic_load(&plan->begun);
+}
+
+/* Outside the mutex. */
+static enum pause pauses(struct standing *one, uint32_t length)
+{
+    uint64_t end = milliseconds() + length;
+    one->number = atomic_fetch_add(&plan->begun, 1) + 1;
+    for (;;) {
+        uint64_t now = milliseconds();
+        if (atomic_load(&one->go))
+            return LET_GO;
+        if (now >= end)
+            return IN_VAIN;
+        sleep_on(&one->go, 1000 * (end - now < LOOK_MS ? end - now : LOOK_MS));
+        if (!atomic_load(&one->go) && (is_in_the_way(one->thread) || all_sleep(one)))
+            return CUT_SHORT;
+    }
+}
+
+/* Pauses as long as the budget has it. */
+static void pauses_within(struct standing *one, struct budget *budget, uint32_t length)
+{
+    uint64_t begun = milliseconds();
+    enum pause pause = pauses(one, length);
+    uint32_t spent = (uint32_t)(milliseconds() - begun);
+    if (!recorder_enters())
+        return;
+    one->thread = NULL;
+    budget->spent_ms += spent;
+    budget->vain += pause == IN_VAIN;
+    budget->cut += pause == CUT_SHORT;
+    recorder_leaves();
+}
+
+static void hold_back(const struct request *request, uint32_t order)
+{
+    struct budget *budget = &before_hold[order];
+    if (!recorder_enters())
+        return;
+    uint32_t length = has_partner(request, order) ? 0 : pause_of(budget, plan->back_ms);
+    struct standing *one = length ? stands(request, AT_HOLD, order) : NULL;
+    recorder_leaves();
+    if (one)
+        pauses_within(one, budget, length);
+}
+
+static void stand_before_ask(const struct request *request, uint32_t order)
+{
+    struct budget *budget = &before_ask[order];
+    if (!recorder_enters())
+        return;
+    uint32_t length = 0;
+    struct standing *one = stands(request, AT_ASK, order);
+    if (one && closes_circle(one)) {
+        atomic_fetch_add(&plan->met, 1);
+    } else if (one) {
+        let_go_for(one);
+        length = pause_of(budget, plan->pause_ms);
+    }
+    if (one && length == 0)
+        one->thread = NULL;
+    recorder_leaves();
+    if (length)
+        pauses_within(one, budget, length);
+}
+
+/* Every other request with something held, for a while of any length up to the plan's. */
+static void make_noise(const struct thread *thread)
+{
+    static _Atomic uint32_t nothing;
+    if (noise_seed == 0)
+        noise_seed = (uint32_t)syscall(SYS_gettid) * 2654435761u ^ (uint32_t)milliseconds();
+    noise_seed = noise_seed * 1664525u + 1013904223u;
+    uint32_t length = (noise_seed >> 8) % (1000 * plan->noise_ms + 1);
+    if (noise_seed >> 31 || noise_spent >= 1000 * NOISE_MS || !may_pause(thread))
+        return;
+    noise_spent += length;
+    sleep_on(&nothing, length);
+}
+
+void steer_counts(const struct request *request)
+{
+    arrives(request);
+}
+
+bool steer_asks(const struct request *request)
+{
+    struct thread *thread = request->thread;
+    struct arrival arrival = arrives(request);
+    bool is_in_plan = arrival.hold < PLAN_ORDERS || arrival.ask < PLAN_ORDERS;
+    if (is_in_plan && may_pause(thread)) {
+        if (arrival.hold < PLAN_ORDERS)
+            hold_back(request, arrival.hold);
+        if (arrival.ask < PLAN_ORDERS)
+            stand_before_ask(request, arrival.ask);
+    }
+    if (plan->noise_ms && thread->count != 0 && !request->again)
+        make_noise(thread);
+    return thread->count != 0;
+}
+
+/* Waits that last. */
+
+/* The thread that the lock itself names as its holder; 0 where it names none. A reader isn't named. */
+static int32_t owner_of(const struct lock *lock)
+{
+    uintptr_t address = atomic_load(&lock->address);
+    if (lock->type->class == MUTEX)
+        return mutex_holder(address);
+    return lock->type->class == RWLOCK ? rwlock_writer(address) : 0;
+}
+
+static void write_owner_for(const struct request *request)
+{
+    if (request->pending && stream_has_room())
+        write_owner(request->thread, request->number, owner_of(request->lock));
+}
+
+void steer_waits(const struct request *request)
+{
+    if (!recorder_enters())
+        return;
+    write_owner_for(request);
+    waiters_each(write_owner_for);
+    recorder_leaves();
+}
+
+void steer_wait_begins(const struct request *request)
+{
+    struct arrival arrival = arrives(request);
+    if (arrival.ask == PLAN_ORDERS || !recorder_enters())
+        return;
+    waits_at = stands(request, AT_WAIT, arrival.ask);
+    if (waits_at)
+        let_go_for(waits_at);
+    recorder_leaves();
+}
+
+bool steer_wait_pauses(void)
+{
+    return waits_at && pause_of(&before_ask[waits_at->order], plan->pause_ms) > 0 && may_pause(&self);
+}
+
+void steer_pauses_after_wait(const struct request *request)
+{
+    uint32_t order = waits_at->order;
+    steer_wait_ends();
+    stand_before_ask(request, order);
+}
+
+void steer_wait_ends(void)
+{
+    if (!waits_at || !recorder_enters())
+        return;
+    waits_at->thread = NULL;
+    waits_at = NULL;
+    recorder_leaves();
+}
+
+void steer_left(const struct thread *thread)
+{
+    for (struct standing *one = standing; one < standing + STANDING; one++)
+        if (one->thread == thread)
+            one->thread = NULL;
+    waits_at = NULL;
+}
+
+void steer_forked(void)
+{
+    for (struct standing *one = standing; one < standing + STANDING; one++)
+        one->thread = NULL;
+    waits_at = NULL;
+    made_before = atomic_load(&threads_made_and_joined);
+    if (steers)
+        process_shown();
+}

@@ -1,0 +1,139 @@
+# Tests of `record --confirm`: models of programs that can hang (confirm/wrong.c, confirm/observers.cc), and of such as only
+# look like that (confirm/right.c). recorder/test/run has the functions.
+
+# build_models: wrong, right, observers and observers_0, here.
+build_models() {
+    [ ! -x observers_0 ] || return 0
+    cp "$here"/confirm/* . && "${CC:-cc}" -g -O1 -Wall -Wextra -Werror -pthread -o wrong wrong.c &&
+        "${CC:-cc}" -g -O1 -Wall -Wextra -Werror -pthread -o right right.c && c++ -g -O1 -pthread -o observers observers.cc &&
+        c++ -g -O0 -pthread -o observers_0 observers.cc
+}
+
+# confirmed_run COMMAND..: what --confirm tells, in recorded.err; the output of the first run in recorded.out. RUNS is `=N` or
+# empty.
+confirmed_run() {
+    RECORD_FRAMES=8 timeout 100 "$record" --on-deadlock "${HANGS-kill}" --confirm${RUNS-} "$@" >recorded.out 2>recorded.err </dev/null
+}
+
+# The line of a report that hung: each thread has taken a lock and waits for another.
+hangs='confirmed: hung in run [1-3] after [0-9]*\.[0-9][0-9] s: thread [0-9]* took "[^"]*" @ [^ ]* and waits for "[^"]*" @ [^ ]*; thread [0-9]* took '
+
+if wanted confirm; then
+    build_models
+    got=0
+    for model in $(./wrong) observers observers_0; do
+        case $model in observers*) confirmed_run "./$model" ;; *) confirmed_run ./wrong "$model" ;; esac
+        # It may hang by itself, though that is seldom.
+        if grep -q "$hangs" recorded.err && grep -q '^record: .*, 1 confirmed, [01] circles*, 1 process$' recorded.err && { [ "$(cat recorded.out)" = ended ] || grep -q '^circle:$' recorded.err; }; then
+            got=$((got + 1))
+        else
+            echo "not confirmed: $model" && grep confirmed recorded.err
+        fi
+    done
+    [ $got -ge 17 ]
+    tell confirm "at least 17 of 20 models of bugs hang within three runs: $got" $?
+fi
+
+# unconfirmed WANTED COMMAND..: nothing hangs, and it is told why.
+unconfirmed() {
+    want=$1
+    shift
+    confirmed_run "$@"
+    [ $? -eq 0 ] && grep -q "$want" recorded.err && ! grep -q 'confirmed: hung' recorded.err &&
+        grep -q '^record: 1 report, 0 confirmed, [01] circles*, .*1 process$' recorded.err
+    status=$?
+    [ $status -eq 0 ] || cat recorded.err
+    tell unconfirmed "of $*" $status
+}
+
+if wanted unconfirmed; then
+    build_models
+    for model in gate address join value barrier ring timed readers; do
+        unconfirmed 'not confirmed in 3 runs: @ [^ ]*right.c:[0-9]* was reached [0-9]* times, .*never with the same locks crosswise\(; [0-9]* of the runs took too long, and w.*\)*$' ./right $model
+    done
+    unconfirmed 'not confirmed in 1 run: thread [0-9]* alone came to both places$' ./right alone
+    # Without the look at who holds each lock it is confirmed. To the run that is recorded it is a circle, which ends.
+    HANGS=tell unconfirmed 'not confirmed: seemed to hang in run [1-3], but not each lock says who holds it: thread ' ./right handover
+fi
+
+# How often a steered run was made, by the file that --before writes.
+runs_made() {
+    wc -l <before 2>/dev/null || echo 0
+}
+
+if wanted steered; then
+    build_models
+    confirmed_run --json far.json --sarif far.sarif --html far.html ./wrong far
+    [ $? -eq 0 ] && python3 - <<'END'
+import json
+report = json.load(open("far.json"))["reports"][0]
+confirmed = report["confirmed"]
+assert confirmed["run"] == confirmed["runs"] in (2, 3), confirmed
+assert {(each["took"], each["waits_for"]) for each in confirmed["waits"]} == {("settings", "output"), ("output", "settings")}
+assert all(each["took_at"].startswith("wrong.c:") and each["waits_at"].startswith("wrong.c:") for each in confirmed["waits"])
+assert 0.2 < confirmed["seconds"] < 20, confirmed
+calls = report["asked"]["calls"]
+assert calls[0]["object"].endswith("/wrong") and len(calls[0]["build_id"]) == 40 and calls[0]["offset"] > 0
+step = report["established"][0]
+assert step["taken"]["site"].startswith("wrong.c:") and abs(report["asked"]["at"] - step["at"] - 300) < 250, report["asked"]["at"]
+result = json.load(open("far.sarif"))["runs"][0]["results"][0]
+assert result["level"] == "error" and len(result["codeFlows"]) == 2
+assert [len(flow["locations"]) for flow in result["codeFlows"][1]["threadFlows"]] == [2, 2]
+assert "confirmed: hung in run 2" in open("far.html").read()
+END
+    tell steered "what is confirmed in JSON, SARIF and the page" $?
+
+    RECORD_FRAMES=8 "$record" --confirm-from far.json --error-exitcode 7 ./wrong far >recorded.out 2>recorded.err
+    [ $? -eq 7 ] && grep -q "$hangs" recorded.err && grep -q '^record: 1 report, 1 confirmed$' recorded.err && [ ! -s recorded.out ]
+    tell steered "a report of an earlier run" $?
+    cp wrong wrong.before && "${CC:-cc}" -g -O2 -pthread -o wrong wrong.c
+    RECORD_FRAMES=8 "$record" --confirm-from far.json ./wrong far >recorded.out 2>recorded.err
+    [ $? -eq 2 ] && grep -q "far.json: .*/wrong isn't the one that was recorded: record it anew$" recorded.err && cp wrong.before wrong
+    tell steered "a report of another build is refused" $?
+    echo '{"format": "other"}' >other.json
+    RECORD_FRAMES=8 "$record" --confirm-from other.json ./wrong far 2>recorded.err
+    [ $? -eq 2 ] && grep -q "^record: other.json isn't a file that record --json has written$" recorded.err
+    tell steered "a file that isn't one of findings is refused" $?
+
+    confirmed_run --error-exitcode 9 --alarms confirmed ./wrong accounts
+    [ $? -eq 9 ] && { confirmed_run --error-exitcode 9 --alarms confirmed ./right alone; [ $? -eq 0 ]; }
+    tell steered "--alarms confirmed" $?
+    RUNS==1 confirmed_run ./wrong far
+    grep -q 'not confirmed in 1 run: @ wrong.c:[0-9]* was reached 1 time, ' recorded.err
+    tell steered "--confirm=1" $?
+
+    echo accounts >model
+    RECORD_FRAMES=8 "$record" --on-deadlock kill --confirm -- sh -c 'read model; ./wrong $model' <model >recorded.out 2>recorded.err
+    grep -q "$hangs" recorded.err && grep -q 'is ended where it hangs$' recorded.err && [ "$(cat recorded.out)" = ended ]
+    tell steered "standard input from a file is read anew" $?
+    rm -f before
+    RECORD_FRAMES=8 "$record" --on-deadlock kill --confirm --confirm-time 60 --before 'echo run >>before' -- \
+        sh -c 'read model; ./wrong $model' <model >recorded.out 2>recorded.err
+    grep -q "$hangs" recorded.err && [ "$(runs_made)" -ge 1 ]
+    tell steered "--before runs before each" $?
+    # By a pipe nothing is read twice: the program waits then, and is ended with what it has begun.
+    echo accounts | RECORD_FRAMES=8 "$record" --on-deadlock kill --confirm --confirm-time 3 -- \
+        sh -c 'read model || sleep 7342; ./wrong $model' >recorded.out 2>recorded.err
+    grep -q '; its standard input is /dev/null$' recorded.err && grep -q 'was never reached; [1-3] of the runs took too long, and w[a-z]* ended$' recorded.err &&
+        ! pgrep -f '^sleep 7342$' >left.out
+    tell steered "--confirm-time ends a run, and what it has begun" $?
+
+    # shellcheck disable=SC2016 # the shell that runs it has these
+    confirmed_run -- sh -c '[ -z "${RECORDER_PLAN-}" ] || setsid sleep 7343 & ./wrong accounts'
+    grep -q "$hangs" recorded.err && ! pgrep -f '^sleep 7343$' >left.out
+    tell steered "what has left the program's process group is ended, too" $?
+
+    noisy=1
+    for try in 1 2 3 4 5; do
+        [ $noisy -eq 0 ] && break
+        RECORD_FRAMES=8 timeout 60 "$record" --noise --on-deadlock exit=9 ./wrong accounts >recorded.out 2>recorded.err
+        [ $? -eq 9 ] && grep -q '^record: wrong (process [0-9]*) is ended: its threads wait for one another$' recorded.err && noisy=0
+    done
+    tell steered "--noise, by which a program hangs" $noisy
+    for words in --confirm=0 --confirm=many '--confirm-time 0' --noise=0 '--before x' '--alarms confirmed' '--confirm --frames 1' '--confirm --show 1'; do
+        # shellcheck disable=SC2086 # these are words
+        RECORD_FRAMES=8 "$record" $words ./wrong far >recorded.out 2>recorded.err
+        [ $? -eq 2 ] && [ ! -s recorded.out ]
+        tell steered "$words is refused" $?
+    done
+fi
