@@ -39,13 +39,13 @@ tells_all() {
     diff condensed.pairs full.pairs && [ -s full.pairs ]
 }
 
-# random_runs COMMAND..: whether it holds of a hundred random runs.
+# random_runs COMMAND [WORD]: whether it holds of a hundred random runs, with this word.
 random_runs() {
     missing=
     seed=1
     while [ $seed -le 50 ]; do
         for kind in clean mixed; do
-            "$1" ./random $seed $kind $2 || missing="$missing $kind $seed"
+            "$1" ./random $seed $kind ${2:-} || missing="$missing $kind $seed"
         done
         seed=$((seed + 1))
     done
