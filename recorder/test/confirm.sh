@@ -52,8 +52,9 @@ if wanted unconfirmed; then
         unconfirmed 'not confirmed in 3 runs: @ [^ ]*right.c:[0-9]* was reached [0-9]* times, .*never with the same locks crosswise\(; [0-9]* of the runs took too long, and w.*\)*$' ./right $model
     done
     unconfirmed 'not confirmed in 1 run: thread [0-9]* alone came to both places$' ./right alone
-    # Without the look at who holds each lock it is confirmed. To the run that is recorded it is a circle, which ends.
-    HANGS=tell unconfirmed 'not confirmed: seemed to hang in run [1-3], but not each lock says who holds it: thread ' ./right handover
+    # Without the look at who holds each lock it is confirmed. To the run that is recorded it is a circle, which ends; on a busy
+    # machine it may end before anybody looks.
+    HANGS=tell unconfirmed 'not confirmed: seemed to hang in run [1-3], but not each lock says who holds it: thread \|not confirmed in 3 runs: .*, crosswise [1-9][0-9]* times, and the threads went on' ./right handover
 fi
 
 # How often a steered run was made, by the file that --before writes.

@@ -71,24 +71,27 @@ if wanted tells; then
     # One that doesn't write a request after just two held locks.
     copy_recorder omitting
     sed 's/^    uint32_t asked = type_number(type);$/&\n    if (thread->count == 2)\n        return true;/' "$recorder/quick.h" >omitting/quick.h
-    ! cmp -s "$recorder/quick.h" omitting/quick.h && omitting/record -- true 2>/dev/null
+    ! cmp -s "$recorder/quick.h" omitting/quick.h && omitting/record -- true 2>/dev/null && [ -f omitting/out/recorder.so ]
     planted=$?
     object=$work/omitting/out/recorder.so
     [ $planted -eq 0 ] && tells_all ./pairs 4 2 1000 >/dev/null && ! tells_all ./random 1 clean turns >/dev/null
     tell tells "a recorder that leaves a request out is caught" $?
-    # One that leaves out the fifth line of a kind.
+    # One that leaves out the fifth line of a kind, or the first one that tells of a request given up: it is the only one of its run.
     copy_recorder lacking
-    sed 's/^    const char \*from = stream.line;$/&\n    static int left = 5;\n    const char *kind = getenv("LEFT_OUT");\n    if (kind \&\& strncmp(from, kind, strlen(kind)) == 0 \&\& --left == 0) {\n        stream.length = 0;\n        return;\n    }/' \
+    sed 's/^    const char \*from = stream.line;$/&\n    static int spared;\n    const char *kind = getenv("LEFT_OUT");\n    if (kind \&\& strncmp(from, kind, strlen(kind)) == 0 \&\& spared++ == atoi(getenv("SPARED"))) {\n        stream.length = 0;\n        return;\n    }/' \
         "$recorder/stream.c" >lacking/stream.c
-    ! cmp -s "$recorder/stream.c" lacking/stream.c && lacking/record -- true 2>/dev/null
+    ! cmp -s "$recorder/stream.c" lacking/stream.c && lacking/record -- true 2>/dev/null && [ -f lacking/out/recorder.so ]
     planted=$?
     object=$work/lacking/out/recorder.so
-    record_both ./random 1 clean turns && both_agree
+    [ $planted -eq 0 ] && record_both ./random 1 clean turns && both_agree
     tell tells "a recorder that leaves out none of a kind agrees" $?
-    for kind in check lock try unlock giveup init type; do
-        [ $planted -eq 0 ] && record_one "$object" condensed.trace env LEFT_OUT="$kind " ./random 1 clean turns
-        ! both_agree >/dev/null 2>&1
-        tell tells "one that leaves out a line of the kind $kind is caught" $?
+    for line in "check 4 1" "lock 4 1" "try 4 1" "unlock 4 1" "giveup 0 3" "init 4 1" "type 4 1"; do
+        set -- $line
+        record_both ./random "$3" clean turns
+        export LEFT_OUT="$1 " SPARED="$2"
+        [ $planted -eq 0 ] && both_agree && record_one "$object" condensed.trace ./random "$3" clean turns && ! both_agree >/dev/null 2>&1
+        tell tells "one that leaves out a line of the kind $1 is caught" $?
+        unset LEFT_OUT SPARED
     done
     object=$recorder/out/recorder.so
 fi
