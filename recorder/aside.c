@@ -10,9 +10,7 @@
 #include "recorder.h"
 
 #include <errno.h>
-#include <sys/mman.h>
 #include <sys/syscall.h>
-#include <unistd.h>
 
 /* As many as may be needed at once: others wait for the recorder's mutex on theirs. They are made when they are. */
 enum { STACKS = 256, STACK_BYTES = 1 << 16 };

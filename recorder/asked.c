@@ -9,7 +9,6 @@
 #include "recorder.h"
 
 #include <sys/uio.h>
-#include <unistd.h>
 
 bool mutex_read(uintptr_t address, pthread_mutex_t *mutex)
 {
@@ -41,18 +40,12 @@ static void write_answer(struct thread *thread)
     int32_t holder;
     if (!stream_has_room() || !seat_taken(thread))
         return;
-    put_text(WORD_ANSWER "\n");
-    stream_append(false);
+    write_line(WORD_ANSWER);
     for (uint32_t at = 0; at < LOCKS_ALIVE; at++) {
         struct lock *lock = lock_held_from(&at, &holder);
         uint32_t number = lock ? lock_number(thread, lock) : 0;
-        if (number == 0)
-            continue;
-        put_text(WORD_HOLDER);
-        put_number(number);
-        put_number((uint64_t)holder);
-        put_text("\n");
-        stream_append(false);
+        if (number != 0)
+            write_line(WORD_HOLDER " %u %u", number, (uint32_t)holder);
     }
     seat_given_back(thread);
 }

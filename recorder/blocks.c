@@ -15,7 +15,6 @@
 #include "quick.h"
 
 #include <errno.h>
-#include <stdlib.h>
 #include <string.h>
 
 /* A word: the callers that took the block, its size in units of 16 bytes, and of its address what the line doesn't say. */
@@ -300,10 +299,10 @@ static void look_for_origin(void *argument)
 {
     struct taking *taking = argument;
     uint32_t places[DEPTH_MOST] = {0};
-    if (!takers_learnt(taking->caller, depth, places) || !recorder_enters())
+    if (!takers_learnt(taking->caller, depth, places))
         return;
+    ENTERS_OR(return);
     taking->origin = origin_met(places);
-    recorder_leaves();
 }
 
 /*
@@ -314,10 +313,8 @@ static COLD uint32_t new_origin(uintptr_t pc, uintptr_t stack, uintptr_t base)
 {
     struct taking taking = {{pc, stack, base}, 0};
     int before = errno;
-    if (!goes_far_inside(HERE))
-        return 0;
+    GOES_INSIDE_OR(HERE, return 0);
     aside(look_for_origin, &taking);
-    goes_outside(&self);
     errno = before;
     return taking.origin;
 }

@@ -3,8 +3,6 @@
 #include <elf.h>
 #include <fcntl.h>
 #include <string.h>
-#include <sys/mman.h>
-#include <unistd.h>
 
 enum { TEXT_BYTES = 1 << 22, NAME_MOST = 200 };
 

@@ -6,7 +6,6 @@
 
 #include <limits.h>
 #include <sys/syscall.h>
-#include <unistd.h>
 
 /* Errors that were written, by their kind and place, so that none is written twice. What finds no room isn't written. */
 enum { ERRORS_MOST = 1024 };
@@ -72,21 +71,17 @@ static void tell_met(void *argument)
 {
     const struct met *it = argument;
     uint32_t place = place_of(it->caller);
-    if (!recorder_enters())
-        return;
+    ENTERS_OR(return);
     struct lock *lock = lock_at(it->address);
     if (lock)
         tell(it->error, lock, place);
-    recorder_leaves();
 }
 
 void error_at(enum lock_error error, const void *address, struct caller caller)
 {
     struct met it = {error, address, caller};
-    if (!goes_far_inside(caller.stack))
-        return;
+    GOES_INSIDE_OR(caller.stack, return);
     aside(tell_met, &it);
-    goes_outside(&self);
 }
 
 /* A handler of fork may make the locks anew that it took for the child, as those of allocators do. */
@@ -112,12 +107,10 @@ void error_of_freed(struct lock *lock)
 static void tell_reread(void *argument)
 {
     const struct request *request = argument;
-    if (!recorder_enters())
-        return;
+    ENTERS_OR(return);
     count_missed(MISSED_REREADS);
     if (request->lock->type->class != TOLD_RWLOCK)
         tell(ERROR_REREAD, request->lock, request->place);
-    recorder_leaves();
 }
 
 COLD void error_of_reread(struct request *request)
@@ -131,19 +124,17 @@ COLD void error_of_reread(struct request *request)
 void error_of_wait(const pthread_mutex_t *mutex, struct caller caller)
 {
     if (mutex->__data.__lock == 0 || ((mutex->__data.__kind & 3) != PTHREAD_MUTEX_ADAPTIVE_NP && mutex->__data.__owner != 0
-            && mutex->__data.__owner != (int)syscall(SYS_gettid)))
+            && mutex->__data.__owner != gettid()))
         error_at(ERROR_WAITED, mutex, caller);
 }
 
 static void tell_held(void *unused)
 {
     (void)unused;
-    if (!recorder_enters())
-        return;
+    ENTERS_OR(return);
     for (uint32_t i = 0; i < self.count; i++)
         if (stands_for_lock(&self.held[i]) && !is_robust(self.held[i].lock))
             tell(ERROR_ENDED, self.held[i].lock, self.held[i].place);
-    recorder_leaves();
 }
 
 /*

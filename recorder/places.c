@@ -14,7 +14,6 @@
  */
 #include "steer.h"
 
-#include <stdlib.h>
 #include <string.h>
 #include <strings.h>
 #include <sys/auxv.h>
@@ -218,58 +217,47 @@ static void look_up(struct place *place, uintptr_t pc)
         place->detour = detour;
 }
 
-static void add(uintptr_t pc, int32_t step, bool leaves_base)
-{
-    uint32_t number = place_at_pc(pc);
-    if (number) {
-        if (place_at(number)->step != step)
-            place_at(number)->step = STEP_VARIES;
-        place_at(number)->leaves_base |= leaves_base;
-        return;
-    }
-    if (places_met >= PLACES / 4 * 3)
-        return;
-    uint32_t object = object_of(pc - 1, true);
-    uint32_t slot = place_slot(pc);
-    for (uintptr_t met; (met = atomic_load_explicit(&places[slot].pc, memory_order_relaxed)) != 0;) {
-        if (met == PC_CLOSED && places[slot].closed == pc && places[slot].object == object) {
-            atomic_store_explicit(&places[slot].pc, pc, memory_order_release);
-            return;
-        }
-        slot = (slot + 1) % PLACES;
-    }
-    struct place *place = &places[slot];
-    place->step = step;
-    place->leaves_base = leaves_base;
-    place->name = "";
-    place->detour = frames_shown > 1 ? DETOUR_STACKS : DETOUR_NONE;
-    place->object = (uint16_t)object;
-    if (place->object)
-        look_up(place, pc);
-    if (UNLIKELY(steers))
-        steer_place(place);
-    places_met++;
-    atomic_store_explicit(&place->pc, pc, memory_order_release);
-}
-
-uint32_t place_named(uintptr_t pc, const char *file, unsigned line, const char *function)
+/* The number of the place, which is made as GIVEN where it wasn't met; 0 without room for it. Under the mutex. */
+static uint32_t place_made(uintptr_t pc, const struct place *given)
 {
     uint32_t number = place_at_pc(pc), slot = place_slot(pc);
     if (number || places_met >= PLACES / 4 * 3)
         return number;
-    while (atomic_load_explicit(&places[slot].pc, memory_order_relaxed) != 0)
+    for (uintptr_t met; (met = atomic_load_explicit(&places[slot].pc, memory_order_relaxed)) != 0;) {
+        if (met == PC_CLOSED && places[slot].closed == pc && places[slot].object == given->object)
+            break;
         slot = (slot + 1) % PLACES;
+    }
     struct place *place = &places[slot];
-    place->step = STEP_LAST;
-    place->detour = frames_shown > 1 ? DETOUR_STACKS : DETOUR_NONE;
-    place->name = function;
-    place->offset = line;
-    place->file = file;
-    if (UNLIKELY(steers))
-        steer_place(place);
-    places_met++;
+    if (atomic_load_explicit(&place->pc, memory_order_relaxed) == 0) {
+        *place = *given;
+        place->detour = frames_shown > 1 ? DETOUR_STACKS : DETOUR_NONE;
+        if (place->object)
+            look_up(place, pc);
+        if (UNLIKELY(steers))
+            steer_place(place);
+        places_met++;
+    }
     atomic_store_explicit(&place->pc, pc, memory_order_release);
     return slot + 1;
+}
+
+static void add(uintptr_t pc, int32_t step, bool leaves_base)
+{
+    uint32_t number = place_at_pc(pc);
+    if (!number) {
+        uint16_t object = places_met < PLACES / 4 * 3 ? (uint16_t)object_of(pc - 1, true) : 0;
+        place_made(pc, &(struct place){.step = step, .leaves_base = leaves_base, .name = "", .object = object});
+        return;
+    }
+    if (place_at(number)->step != step)
+        place_at(number)->step = STEP_VARIES;
+    place_at(number)->leaves_base |= leaves_base;
+}
+
+uint32_t place_named(uintptr_t pc, const char *file, unsigned line, const char *function)
+{
+    return place_made(pc, &(struct place){.step = STEP_LAST, .name = function, .offset = line, .file = file});
 }
 
 /* The object is mapped no longer: at its addresses there may be another. Its places stay, with their numbers. */
@@ -383,8 +371,7 @@ COLD static void unwind(struct caller caller, struct stack *stack)
     bool blind = stack->count < FRAMES && !has_tables(last);
     if (!objects_are_found())
         objects_look();
-    if (!recorder_enters())
-        return;
+    ENTERS_OR(return);
     if (blind && !is_complete(stack))
         object_ends_stacks(object_of(last - 1, true));
     for (uint32_t i = 0; i + 1 < stack->count; i++)
@@ -392,7 +379,6 @@ COLD static void unwind(struct caller caller, struct stack *stack)
             leaves_base(&stack->frames[i], &stack->frames[i + 1]));
     if (stack->count < FRAMES)
         add(stack->frames[stack->count - 1].pc, STEP_LAST, false);
-    recorder_leaves();
 }
 
 /* Goes to the frame's own caller. False where the unwinder has to be asked. */
@@ -427,26 +413,9 @@ static uintptr_t pair_pc(uint32_t library, uint32_t rest)
 /* Makes the place that stands for the two. Without room for it, the second one. */
 COLD static uint32_t pair_made(uint32_t library, uint32_t rest)
 {
-    uintptr_t pc = pair_pc(library, rest);
-    if (!recorder_enters())
-        return rest;
-    uint32_t number = place_at_pc(pc);
-    if (number == 0 && places_met < PLACES / 4 * 3) {
-        uint32_t slot = place_slot(pc);
-        while (atomic_load_explicit(&places[slot].pc, memory_order_relaxed) != 0)
-            slot = (slot + 1) % PLACES;
-        struct place *place = &places[slot];
-        place->name = "";
-        place->detour = frames_shown > 1 ? DETOUR_STACKS : DETOUR_NONE;
-        place->library = library;
-        place->rest = rest;
-        if (UNLIKELY(steers))
-            steer_place(place);
-        places_met++;
-        atomic_store_explicit(&place->pc, pc, memory_order_release);
-        number = slot + 1;
-    }
-    recorder_leaves();
+    ENTERS_OR(return rest);
+    uint32_t number
+        = place_made(pair_pc(library, rest), &(struct place){.name = "", .library = library, .rest = rest});
     return number ? number : rest;
 }
 

@@ -11,16 +11,13 @@
  */
 #include "others.h"
 
-#include <dlfcn.h>
 #include <elf.h>
 #include <errno.h>
 #include <limits.h>
 #include <link.h>
 #include <linux/futex.h>
 #include <string.h>
-#include <sys/mman.h>
 #include <sys/syscall.h>
-#include <unistd.h>
 
 static _Atomic bool may_have_come, looks;
 /* So many objects, of those that are there, were looked at; and how many were gone by then. */

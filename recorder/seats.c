@@ -34,13 +34,6 @@ static bool is_lent(uint32_t seat)
     return seats_lent[(seat - 1) / 64] >> (seat - 1) % 64 & 1;
 }
 
-/* `lent`: from here on a seat may be another thread's than the one that its last line `thread` tells of. */
-static void write_lent(void)
-{
-    put_text(WORD_LENT "\n");
-    stream_append(false);
-}
-
 /* A seat for the thread: the one that it had, one that nobody has had, or one that is free now. More than SEATS for none. */
 static uint32_t seat_for(const struct thread *thread)
 {
@@ -62,9 +55,10 @@ bool seat_found(struct thread *thread)
     if (seat > SEATS)
         return false;
     bool is_named = sitters[seat] == thread && thread->last_seat == seat;
+    /* From here on a seat may be another thread's than the one that its last line `thread` tells of. */
     if (!is_named && sitters[seat] && !are_lent) {
         are_lent = true;
-        write_lent();
+        write_line(WORD_LENT);
     }
     seats_lent[(seat - 1) / 64] |= (uint64_t)1 << (seat - 1) % 64;
     thread->seat = thread->last_seat = seat;

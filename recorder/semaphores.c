@@ -29,11 +29,11 @@ static void leave_alone(struct lock *lock)
 static COLD void note_unseen(uintptr_t stack)
 {
     static _Atomic bool noted;
-    if (atomic_load_explicit(&noted, memory_order_relaxed) || !goes_far_inside(stack))
+    if (atomic_load_explicit(&noted, memory_order_relaxed))
         return;
+    GOES_INSIDE_OR(stack, return);
     atomic_store(&noted, true);
     status_semaphores();
-    goes_outside(&self);
 }
 
 static bool begins(struct request *request, sem_t *semaphore, enum asking asking, struct caller caller)
@@ -101,29 +101,19 @@ EXPORT int sem_wait(sem_t *semaphore)
     return ends(&request, semaphore, answer);
 }
 
-EXPORT int sem_trywait(sem_t *semaphore)
-{
-    struct request request;
-    bool begun = begins(&request, semaphore, TRIES, CALLER);
-    int answer = real.sem_trywait(semaphore);
-    return begun ? ends(&request, semaphore, answer) : answer;
-}
-
-EXPORT int sem_timedwait(sem_t *restrict semaphore, const struct timespec *restrict limit)
-{
-    struct request request;
-    bool begun = begins(&request, semaphore, ASKS_FOR_A_TIME, CALLER);
-    int answer = real.sem_timedwait(semaphore, limit);
-    return begun ? ends(&request, semaphore, answer) : answer;
-}
-
-EXPORT int sem_clockwait(sem_t *restrict semaphore, clockid_t clock, const struct timespec *restrict limit)
-{
-    struct request request;
-    bool begun = begins(&request, semaphore, ASKS_FOR_A_TIME, CALLER);
-    int answer = real.sem_clockwait(semaphore, clock, limit);
-    return begun ? ends(&request, semaphore, answer) : answer;
-}
+/* The calls that don't wait for good. */
+#define WAITS_BRIEFLY(name, asking, real_call, ...)                                                                    \
+    EXPORT int name(sem_t *semaphore, ##__VA_ARGS__)                                                                   \
+    {                                                                                                                  \
+        struct request request;                                                                                        \
+        bool begun = begins(&request, semaphore, asking, CALLER);                                                      \
+        int answer = real.real_call;                                                                                   \
+        return begun ? ends(&request, semaphore, answer) : answer;                                                     \
+    }
+WAITS_BRIEFLY(sem_trywait, TRIES, sem_trywait(semaphore))
+WAITS_BRIEFLY(sem_timedwait, ASKS_FOR_A_TIME, sem_timedwait(semaphore, limit), const struct timespec *limit)
+WAITS_BRIEFLY(sem_clockwait, ASKS_FOR_A_TIME, sem_clockwait(semaphore, clock, limit), clockid_t clock,
+    const struct timespec *limit)
 
 EXPORT int sem_post(sem_t *semaphore)
 {

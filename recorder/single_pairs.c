@@ -25,7 +25,6 @@
 #include "quick.h"
 #include "single_pairs.h"
 
-#include <sys/mman.h>
 
 enum { SLOTS_FIRST = 1 << 11, SLOTS_MOST = 1 << 21, WIDER = 4, PAIRS_MOST = 1000000 };
 
@@ -206,11 +205,9 @@ static void note_pair(const struct request *request, uint32_t at)
 static COLD void note_all(void *argument)
 {
     const struct request *request = argument;
-    if (!recorder_enters())
-        return;
+    ENTERS_OR(return);
     for (uint32_t i = 0; i < request->thread->count; i++)
         note_pair(request, i);
-    recorder_leaves();
 }
 
 void pairs_noted(struct request *request)

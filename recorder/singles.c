@@ -5,7 +5,6 @@
 #include "quick.h"
 
 #include <sys/syscall.h>
-#include <unistd.h>
 
 /* Threads whose end is told of, if they are joined. */
 enum { LIVES = 256 };
@@ -38,7 +37,7 @@ void life_begins(struct thread *thread)
     write_life(thread);
     for (uint32_t i = 0; i < LIVES; i++) {
         if (lives[i].thread == 0) {
-            lives[i] = (struct life){pthread_self(), (uint32_t)syscall(SYS_gettid), atomic_fetch_add(&lives_begun, 1),
+            lives[i] = (struct life){pthread_self(), (uint32_t)gettid(), atomic_fetch_add(&lives_begun, 1),
                 thread->maker ? thread->made_at : UINT32_MAX};
             atomic_fetch_add(&lives_kept, 1);
             return;
@@ -71,8 +70,7 @@ struct joined {
 static void end_lives(void *argument)
 {
     const struct joined *it = argument;
-    if (!recorder_enters())
-        return;
+    ENTERS_OR(return);
     for (uint32_t i = 0; i < LIVES; i++) {
         if (is_joined(&lives[i], &it->joining)) {
             write_joined(lives[i].thread, it->at);
@@ -80,14 +78,13 @@ static void end_lives(void *argument)
             atomic_fetch_sub(&lives_kept, 1);
         }
     }
-    recorder_leaves();
 }
 
 void order_of_joined(struct joining joining)
 {
     struct joined it = {joining, atomic_fetch_add(&threads_made_and_joined, 1)};
-    if (LIKELY(atomic_load(&lives_kept) == 0) || !goes_far_inside(HERE))
+    if (LIKELY(atomic_load(&lives_kept) == 0))
         return;
+    GOES_INSIDE_OR(HERE, return);
     aside(end_lives, &it);
-    goes_outside(&self);
 }

@@ -58,8 +58,7 @@ static uint32_t stack_found(struct caller caller, bool *is_new)
     uint32_t slot = slot_of(found, count);
     if (atomic_load(&stacks[slot].count) != 0)
         return slot + 1;
-    if (!recorder_enters())
-        return 0;
+    ENTERS_OR(return 0);
     slot = slot_of(found, count);
     if (stacks[slot].count != 0) {
         number = slot + 1;
@@ -70,7 +69,6 @@ static uint32_t stack_found(struct caller caller, bool *is_new)
         number = slot + 1;
         *is_new = true;
     }
-    recorder_leaves();
     return number;
 }
 
@@ -108,10 +106,8 @@ void stack_stands(uint32_t number)
     *written = 1;
     for (uint32_t i = 0; i < stack->count; i++)
         place_number(stack->places[i]);
-    put_text(WORD_STACK);
-    put_number(number);
+    line_put(WORD_STACK " %u", number);
     for (uint32_t i = 0; i < stack->count; i++)
-        put_number(stack->places[i]);
-    put_text("\n");
+        line_put(" %u", stack->places[i]);
     stream_append(false);
 }

@@ -11,12 +11,9 @@
 
 #include <fcntl.h>
 #include <stdio.h>
-#include <stdlib.h>
 #include <string.h>
-#include <sys/mman.h>
 #include <sys/resource.h>
 #include <sys/stat.h>
-#include <unistd.h>
 
 enum { SLOT_BYTES = 256, SLOTS = 3072, DIGITS = 10 };
 /*

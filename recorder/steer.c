@@ -22,12 +22,9 @@
 #include <limits.h>
 #include <linux/futex.h>
 #include <sched.h>
-#include <stdlib.h>
 #include <string.h>
-#include <sys/mman.h>
 #include <sys/stat.h>
 #include <sys/syscall.h>
-#include <unistd.h>
 #include <unwind.h>
 
 enum {
@@ -158,7 +155,7 @@ static bool is_chain(const struct plan_chain *chain, const uint32_t *found, uint
 
 static void count_met(struct plan_met *met)
 {
-    int32_t thread = (int32_t)syscall(SYS_gettid), known = 0;
+    int32_t thread = gettid(), known = 0;
     atomic_fetch_add(&met->times, 1);
     if (!atomic_compare_exchange_strong(&met->thread, &known, thread) && known != thread)
         atomic_store(&met->thread, PLAN_SEVERAL_THREADS);
@@ -327,13 +324,6 @@ static bool has_partner(const struct request *request, uint32_t order)
 
 /* Pauses. */
 
-static uint64_t milliseconds(void)
-{
-    struct timespec now;
-    clock_gettime(CLOCK_MONOTONIC, &now);
-    return (uint64_t)now.tv_sec * 1000 + (uint64_t)now.tv_nsec / 1000000;
-}
-
 static uint32_t pause_of(const struct budget *budget, uint32_t first)
 {
     if (first == 0 || budget->vain >= PAUSES || budget->cut >= CUTS || budget->spent_ms >= SPENT_MS)
@@ -419,13 +409,11 @@ static void pauses_within(struct standing *one, struct budget *budget, uint32_t 
     uint64_t begun = milliseconds();
     enum pause pause = pauses(one, length);
     uint32_t spent = (uint32_t)(milliseconds() - begun);
-    if (!recorder_enters())
-        return;
+    ENTERS_OR(return);
     one->thread = NULL;
     budget->spent_ms += spent;
     budget->vain += pause == IN_VAIN;
     budget->cut += pause == CUT_SHORT;
-    recorder_leaves();
 }
 
 static void hold_back(const struct request *request, uint32_t order)
@@ -465,7 +453,7 @@ static void make_noise(const struct thread *thread)
 {
     static _Atomic uint32_t nothing;
     if (noise_seed == 0)
-        noise_seed = (uint32_t)syscall(SYS_gettid) * 2654435761u ^ (uint32_t)milliseconds();
+        noise_seed = (uint32_t)gettid() * 2654435761u ^ (uint32_t)milliseconds();
     noise_seed = noise_seed * 1664525u + 1013904223u;
     uint32_t length = (noise_seed >> 8) % (1000 * plan->noise_ms + 1);
     if (noise_seed >> 31 || noise_spent >= 1000 * NOISE_MS || !may_pause(thread))
@@ -514,11 +502,9 @@ static void write_owner_for(const struct request *request)
 
 void steer_waits(const struct request *request)
 {
-    if (!recorder_enters())
-        return;
+    ENTERS_OR(return);
     write_owner_for(request);
     waiters_each(write_owner_for);
-    recorder_leaves();
 }
 
 void steer_wait_begins(const struct request *request)

@@ -15,7 +15,6 @@
 #include <string.h>
 #include <sys/prctl.h>
 #include <sys/syscall.h>
-#include <unistd.h>
 
 /* Further threads are passed over: no trace has seats for more. */
 enum { WAITERS = SEATS };
@@ -95,7 +94,7 @@ void waiter_ends(struct request *request)
 
 long thread_number(const struct thread *thread)
 {
-    return thread == &self ? syscall(SYS_gettid) : thread->waiter->number;
+    return thread == &self ? gettid() : thread->waiter->number;
 }
 
 void thread_name(const struct thread *thread, char name[THREAD_NAME_ROOM])
