@@ -38,7 +38,7 @@ static bool is_new(enum lock_error error, uint32_t place)
 static bool is_robust(const struct lock *lock)
 {
     pthread_mutex_t mutex;
-    return lock->type->class == MUTEX && mutex_read(atomic_load(&lock->address), &mutex) && (mutex.__data.__kind & 16);
+    return lock->type->class == MUTEX && lock_read(lock, &mutex, sizeof mutex) && (mutex.__data.__kind & 16);
 }
 
 /* The thread holds the lock still. */
@@ -55,10 +55,17 @@ static struct held *held_by(struct thread *thread, const struct lock *lock)
     return NULL;
 }
 
+/* `error WORD SEAT LOCK PLACE`: the words are those of errors, in their order. */
 static COLD void tell(enum lock_error error, struct lock *lock, uint32_t place)
 {
-    if (is_new(error, place))
-        write_error(&self, error, lock, place);
+#define WORD_OF(error, word) word,
+    static const char *const words[] = {EACH_ERROR(WORD_OF)};
+    if (!is_new(error, place))
+        return;
+    SEATED_OR(&self, return);
+    uint32_t number = lock_number(&self, lock), site = number ? place_number(place) : 0;
+    if (number != 0)
+        write_line(WORD_ERROR " %s %u %u %u", words[error], self.seat, number, site);
 }
 
 struct met {

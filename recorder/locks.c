@@ -442,8 +442,7 @@ struct lock *lock_held_from(uint32_t *at, int32_t *holder)
 {
     for (; *at < locks_taken; (*at)++) {
         struct lock *lock = lock_numbered(*at);
-        uintptr_t address = atomic_load(&lock->address);
-        if (address && lock->type->class == MUTEX && (*holder = mutex_holder(address)) != 0)
+        if (atomic_load(&lock->address) && lock->type->class == MUTEX && (*holder = lock_holder(lock)) != 0)
             return lock;
     }
     *at = LOCKS_ALIVE;

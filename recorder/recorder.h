@@ -278,6 +278,7 @@ struct request {
     bool again_refused; /* the thread holds the lock, and it isn't one to be acquired again */
     bool waited_for_itself; /* that was written */
     bool pending;       /* the stream has it */
+    bool got;           /* it has ended with the lock */
     uint32_t number;
 };
 
@@ -638,9 +639,12 @@ uint32_t stack_of_held(uint32_t place, struct caller caller);
 void stack_stands(uint32_t number);
 
 /* asked.c */
-bool mutex_read(uintptr_t address, pthread_mutex_t *mutex); /* false where its memory is gone */
-int32_t mutex_holder(uintptr_t address);
-int32_t rwlock_writer(uintptr_t address);
+bool lock_read(const struct lock *lock, void *to, size_t bytes); /* false where its memory is gone */
+/*
+ * The thread that a mutex or a rwlock itself names as its holder, as the kernel counts threads; 0 where it names none, or can't
+ * be read. A reader isn't named.
+ */
+int32_t lock_holder(const struct lock *lock);
 void answer(struct thread *thread);
 
 /* annotations.c */
@@ -704,8 +708,8 @@ uint32_t lock_number(struct thread *thread, struct lock *lock);
 uint32_t lock_number_for_pair(struct thread *thread, struct lock *lock);
 uint32_t type_number_for_pair(struct type *type); /* 0 where there is no room for it */
 bool type_fits(struct type *type);
-void number_stands(uint32_t number);
-void number_stands_no_more(uint32_t number);
+void number_stands(struct thread *thread, uint32_t number);
+void number_stands_no_more(struct thread *thread, uint32_t number);
 /* Whether the stream has the lock held or asked for, but for an own acquisition. */
 bool number_has_others(struct lock *lock, uint32_t own);
 uint32_t place_number(uint32_t place);
@@ -719,15 +723,23 @@ void write_acquired(struct request *request, struct held *held);
 void write_given_up(struct request *request);
 void write_left(struct thread *thread);
 void write_unlock(struct thread *thread, struct held *held);
-void write_waits_for_itself(struct request *request);
+void write_waits_again(struct request *request);
 void write_goes_on(const struct request *request);
-void write_owner(const struct thread *thread, uint32_t lock, int32_t owner); /* under the mutex */
-void write_waits_behind(struct request *request);
 void write_released_by_another(struct thread *thread, struct lock *lock, uint32_t place);
-void write_error(struct thread *thread, enum lock_error error, struct lock *lock, uint32_t place); /* inside */
-void write_life(struct thread *thread); /* inside, as the next one */
-void write_joined(uint32_t joined, uint32_t at);
 bool stream_has_room(void);
+/* To the end of the block the thread has a seat. Where the stream has no room, or there is no seat, OTHERWISE comes. */
+#define SEATED_OR(sitter, otherwise)                                                                                   \
+    __attribute__((cleanup(seat_goes_again))) struct thread *seated                                                    \
+        = stream_has_room() && seat_taken(sitter) ? (sitter) : NULL;                                                   \
+    if (!seated)                                                                                                       \
+    otherwise
+
+static inline void seat_goes_again(struct thread *const *seated)
+{
+    if (*seated)
+        seat_given_back(*seated);
+}
+
 void write_thread(const struct thread *thread);
 void write_place(uint32_t place);
 void write_type(struct type *type);

@@ -145,15 +145,18 @@ uint32_t lock_number_for_pair(struct thread *thread, struct lock *lock)
     return number == NUMBER_NONE ? 0 : number;
 }
 
-/* The stream has the lock of that number held, or asked for. */
-void number_stands(uint32_t number)
+/* The stream has the lock of that number held or asked for by the thread. */
+void number_stands(struct thread *thread, uint32_t number)
 {
+    thread->written++;
     holders[number]++;
 }
 
-void number_stands_no_more(uint32_t number)
+void number_stands_no_more(struct thread *thread, uint32_t number)
 {
+    thread->written--;
     holders[number]--;
+    seat_given_back(thread);
 }
 
 bool number_has_others(struct lock *lock, uint32_t own)

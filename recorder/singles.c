@@ -28,13 +28,21 @@ void singles_forked(void)
     self.maker = self.grand = 0;
 }
 
-/* Before the first pair of a thread. */
+static void write_life(uint32_t thread, uint32_t maker, uint32_t made_at)
+{
+    if (stream_has_room())
+        write_line(WORD_LIFE " %u %u %u", thread, maker, made_at);
+}
+
+/* Before the first pair of a thread: its line, and its maker's, which may have no order of its own. */
 void life_begins(struct thread *thread)
 {
     if (thread->has_pairs)
         return;
     thread->has_pairs = true;
-    write_life(thread);
+    write_life((uint32_t)gettid(), thread->maker, thread->made_at);
+    if (thread->grand != 0)
+        write_life(thread->maker, thread->grand, thread->maker_at);
     for (uint32_t i = 0; i < LIVES; i++) {
         if (lives[i].thread == 0) {
             lives[i] = (struct life){pthread_self(), (uint32_t)gettid(), atomic_fetch_add(&lives_begun, 1),
@@ -72,11 +80,12 @@ static void end_lives(void *argument)
     const struct joined *it = argument;
     ENTERS_OR(return);
     for (uint32_t i = 0; i < LIVES; i++) {
-        if (is_joined(&lives[i], &it->joining)) {
-            write_joined(lives[i].thread, it->at);
-            lives[i].thread = 0;
-            atomic_fetch_sub(&lives_kept, 1);
-        }
+        if (!is_joined(&lives[i], &it->joining))
+            continue;
+        if (stream_has_room())
+            write_line(WORD_JOINED " %u %u %u", lives[i].thread, (uint32_t)gettid(), it->at);
+        lives[i].thread = 0;
+        atomic_fetch_sub(&lives_kept, 1);
     }
 }
 

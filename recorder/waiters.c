@@ -85,11 +85,11 @@ void waiter_ends(struct request *request)
     if (turns(self.waiter, WAITS, FREE)) {
         atomic_fetch_sub(&unwritten, 1);
         self.waiter = NULL;
-    } else if (recorder_enters()) {
-        *request = self.waiter->request;
-        waiter_forgotten(&self);
-        recorder_leaves();
+        return;
     }
+    ENTERS_OR(return);
+    *request = self.waiter->request;
+    waiter_forgotten(&self);
 }
 
 long thread_number(const struct thread *thread)

@@ -57,20 +57,6 @@ void write_thread(const struct thread *thread)
     write_line(WORD_THREAD " %u %s %u %lu", thread->seat, name, made, (uint64_t)thread_number(thread));
 }
 
-/* The stream has the lock held or asked for by the thread. */
-static void stands(struct thread *thread, uint32_t number)
-{
-    thread->written++;
-    number_stands(number);
-}
-
-static void stands_no_more(struct thread *thread, uint32_t number)
-{
-    thread->written--;
-    number_stands_no_more(number);
-    seat_given_back(thread);
-}
-
 bool stream_has_room(void)
 {
     if (!stream_opens())
@@ -126,7 +112,7 @@ static void write_lock(const struct thread *thread, uint32_t lock)
 static void write_held(struct thread *thread, struct held *held)
 {
     held->written |= IS_WRITTEN;
-    stands(thread, held->number);
+    number_stands(thread, held->number);
     if (held->tried) {
         write_asking(WORD_TRY, thread, held->number, held->mode, NULL, held->place, held->stack);
         judge_tried(thread, held->number, held->mode, held->place);
@@ -175,7 +161,7 @@ static void write_asked(struct request *request, uint32_t number, bool is_due)
     write_check(thread, number, request->mode, is_due ? CHECK_ASKS : CHECK_KNOWN, request->place, request->stack);
     request->number = thread->asked = number;
     request->pending = true;
-    stands(thread, number);
+    number_stands(thread, number);
 }
 
 /* `time N`: what follows was asked for so many milliseconds after the process began. Once for all of one millisecond. */
@@ -195,26 +181,23 @@ static void write_time(void)
 static void write_due(struct request *request)
 {
     struct thread *thread = request->thread;
-    if (!stream_has_room() || !seat_taken(thread))
-        return;
+    SEATED_OR(thread, return);
     chain_read(thread);
     uint32_t number = lock_number(thread, request->lock);
-    if (number != 0) {
-        write_time();
-        uint16_t type = (uint16_t)*mark(&request->lock->type->marks);
-        bool is_due = request->patient || !WRITES_ALL || !chain_is_told(thread, request->lock->type);
-        bool waits = request->patient || WRITES_ALL;
-        size_t lines
-            = wit_condensed_lines(pairs, chain.links, chain.count, number, type, waits, chain.lines, HELD_MOST + 1);
-        for (size_t i = 0; i < lines; i++)
-            if (chain.lines[i].kind == WIT_LINE_ASKS)
-                write_asked(request, number, is_due);
-            else
-                write_held(thread, &thread->held[chain.at[chain.lines[i].link]]);
-        /* From here on other threads may leave out what these lines tell. */
-        wit_condensed_ask(pairs, chain.links, chain.count, number, type, waits, chain.lines, HELD_MOST + 1);
-    }
-    seat_given_back(thread);
+    if (number == 0)
+        return;
+    write_time();
+    uint16_t type = (uint16_t)*mark(&request->lock->type->marks);
+    bool is_due = request->patient || !WRITES_ALL || !chain_is_told(thread, request->lock->type);
+    bool waits = request->patient || WRITES_ALL;
+    size_t lines = wit_condensed_lines(pairs, chain.links, chain.count, number, type, waits, chain.lines, HELD_MOST + 1);
+    for (size_t i = 0; i < lines; i++)
+        if (chain.lines[i].kind == WIT_LINE_ASKS)
+            write_asked(request, number, is_due);
+        else
+            write_held(thread, &thread->held[chain.at[chain.lines[i].link]]);
+    /* From here on other threads may leave out what these lines tell. */
+    wit_condensed_ask(pairs, chain.links, chain.count, number, type, waits, chain.lines, HELD_MOST + 1);
 }
 
 /* The stream has it where it tells something new, or waits for long. */
@@ -273,7 +256,7 @@ static void give_up(struct thread *thread)
     line_put(WORD_GIVEUP " %u %u", thread->seat, number);
     stream_append(true);
     judge_gave_up(thread, number);
-    stands_no_more(thread, number);
+    number_stands_no_more(thread, number);
 }
 
 /* After the real call, which didn't get the lock. */
@@ -302,37 +285,28 @@ COLD void write_unlock(struct thread *thread, struct held *held)
     line_put(WORD_UNLOCK " %u %u %c", thread->seat, held->number, letter_of(held->mode));
     stream_append(true);
     judge_released(thread, held->number, held->mode);
-    stands_no_more(thread, held->number);
-}
-
-/* `again SEAT LOCK PLACE`: the thread waits for a lock that it holds. What it holds is written before. */
-COLD void write_waits_for_itself(struct request *request)
-{
-    struct thread *thread = request->thread;
-    ENTERS_OR(return);
-    count_missed(MISSED_AGAIN);
-    if (stream_has_room() && seat_taken(thread)) {
-        write_chain(thread);
-        if (request->again->written & IS_WRITTEN)
-            write_note(WORD_AGAIN, thread, request->again->number, request->place);
-        seat_given_back(thread);
-    }
+    number_stands_no_more(thread, held->number);
 }
 
 /*
- * The thread has the lock as a reader, and has waited for a second to have it once more. When it gets it, the stream has it as
- * given up: what is acquired again isn't in it.
+ * The thread waits for a lock that it holds, and what it holds is written before: `again SEAT LOCK PLACE` where it can't have it
+ * twice. As a reader it has waited for a second, and asks for it; when it gets it, the stream has it as given up, since what is
+ * acquired again isn't in it.
  */
-COLD void write_waits_behind(struct request *request)
+COLD void write_waits_again(struct request *request)
 {
     struct thread *thread = request->thread;
     ENTERS_OR(return);
-    if (stream_has_room() && seat_taken(thread)) {
-        write_chain(thread);
-        if (request->again->written & IS_WRITTEN)
-            write_asked(request, request->again->number, true);
-        seat_given_back(thread);
-    }
+    if (request->again_refused)
+        count_missed(MISSED_AGAIN);
+    SEATED_OR(thread, return);
+    write_chain(thread);
+    if (!(request->again->written & IS_WRITTEN))
+        return;
+    if (request->again_refused)
+        write_note(WORD_AGAIN, thread, request->again->number, request->place);
+    else
+        write_asked(request, request->again->number, true);
 }
 
 /* `went SEAT LOCK`: it waits for that lock no more, which another thread has released. */
@@ -344,55 +318,20 @@ COLD void write_goes_on(const struct request *request)
         write_line(WORD_WENT " %u %u", request->thread->seat, held->number);
 }
 
-/* `owner SEAT LOCK THREAD`: whom the lock itself names as its holder, 0 for none, while the seat's thread waits for it. */
-void write_owner(const struct thread *thread, uint32_t lock, int32_t owner)
-{
-    write_line(WORD_OWNER " %u %u %u", thread->seat, lock, (uint32_t)owner);
-}
-
 /* `foreign SEAT LOCK PLACE`: the thread releases what it doesn't hold. One line for each place; all are counted. */
 COLD void write_released_by_another(struct thread *thread, struct lock *lock, uint32_t place)
 {
     ENTERS_OR(return);
     count_missed(MISSED_RELEASES);
     uint32_t *known = place ? mark(&place_at(place)->releases) : NULL;
-    if (lock && known && !*known && stream_has_room() && seat_taken(thread)) {
-        uint32_t number = lock_number(thread, lock);
-        if (number != 0) {
-            *known = 1;
-            write_note(WORD_FOREIGN, thread, number, place);
-        }
-        seat_given_back(thread);
-    }
-}
-
-/* The thread's, and its maker's, which may have no order of its own. */
-void write_life(struct thread *thread)
-{
-    if (!stream_has_room())
+    if (!lock || !known || *known)
         return;
-    write_line(WORD_LIFE " %u %u %u", (uint32_t)gettid(), thread->maker, thread->made_at);
-    if (thread->grand != 0)
-        write_line(WORD_LIFE " %u %u %u", thread->maker, thread->grand, thread->maker_at);
-}
-
-void write_joined(uint32_t joined, uint32_t at)
-{
-    if (stream_has_room())
-        write_line(WORD_JOINED " %u %u %u", joined, (uint32_t)gettid(), at);
-}
-
-/* `error WORD SEAT LOCK PLACE`: the words are those of errors, in their order. */
-void write_error(struct thread *thread, enum lock_error error, struct lock *lock, uint32_t place)
-{
-#define WORD_OF(error, word) word,
-    static const char *const words[] = {EACH_ERROR(WORD_OF)};
-    if (!stream_has_room() || !seat_taken(thread))
+    SEATED_OR(thread, return);
+    uint32_t number = lock_number(thread, lock);
+    if (number == 0)
         return;
-    uint32_t number = lock_number(thread, lock), site = number ? place_number(place) : 0;
-    if (number != 0)
-        write_line(WORD_ERROR " %s %u %u %u", words[error], thread->seat, number, site);
-    seat_given_back(thread);
+    *known = 1;
+    write_note(WORD_FOREIGN, thread, number, place);
 }
 
 /* Whether these marks are new in the stream. */
@@ -451,17 +390,11 @@ static void put_variable(uint32_t object, uintptr_t address)
         object_symbol_file(object, address));
 }
 
-/* `crowded NUMBER`: the type of that number counts as one without an offset. */
-static void put_crowded(struct type *type)
-{
-    write_line(WORD_CROWDED " %u", *mark(&type->marks));
-}
-
-/* Where it stands in a stream; else that comes with the type. */
+/* `crowded NUMBER`: the type of that number counts as one without an offset. One that has no number gets it with that. */
 void write_crowded(struct type *type)
 {
     if (*mark(&type->marks) != 0 && type_fits(type) && stream_has_room())
-        put_crowded(type);
+        write_line(WORD_CROWDED " %u", *mark(&type->marks));
 }
 
 static uint32_t places_in(const uint32_t places[DEPTH_MOST])
@@ -499,7 +432,7 @@ void write_type(struct type *type)
         line_put(" %u", type->places[i]);
     stream_append(false);
     if (type->crowded)
-        put_crowded(type);
+        write_crowded(type);
 }
 
 /* `init SEAT CLASS FLAGS TYPE`, its name's number among those of its type, and the variable that it stands in. */
