@@ -400,6 +400,10 @@ extern _Atomic bool has_small_stacks; /* and one that has a stack of its own */
 void aside(void (*function)(void *), void *argument);
 bool is_aside(uintptr_t stack); /* whether this thread's own stack has the address */
 void aside_forked(void);
+/* Signals of faults come as they do without the recorder: the program may see to memory of its own by them. */
+#define SIGNAL_BIT(number) ((uint64_t)1 << ((number)-1))
+#define FAULTS (SIGNAL_BIT(SIGSEGV) | SIGNAL_BIT(SIGBUS) | SIGNAL_BIT(SIGFPE) | SIGNAL_BIT(SIGILL) | SIGNAL_BIT(SIGTRAP))
+void change_signals(int how, uint64_t wanted, uint64_t *before); /* which signals wait, as sigprocmask does */
 
 /* Nothing is recorded, and may never be: calls are passed on at once. */
 extern _Atomic bool asleep;
@@ -763,7 +767,7 @@ void stream_append(bool is_entry); /* the line, which ends with this */
 void write_line(const char *words, ...) __attribute__((format(printf, 1, 2))); /* which is no entry of the verifier's log */
 uint64_t milliseconds(void); /* by the clock that only goes on */
 bool stream_opens(void);
-uint64_t stream_time(void); /* in milliseconds since the process, or the fork, began */
+extern uint64_t stream_made_at; /* when the process, or the fork, began, in milliseconds */
 bool stream_is_asked(void);
 void stream_is_answered(void);
 bool stream_has_file(void); /* else their lines are judged alone */
@@ -785,9 +789,11 @@ bool is_readable(const void *address);
 bool is_all_readable(const void *from, size_t bytes);
 
 /* status.c */
+int status_file(const char *name, int how, mode_t mode); /* in the folder of the streams; negative where it can't be opened */
+bool file_may_have(uint64_t size); /* a file that grows over a limit ends the program */
 void status_made(void);
+void status_begins(void); /* this process takes its slot, as one that has the recorder */
 void status_lacks_memory(void); /* the recorder stays off in this process */
-void status_forked(void);
 void status_starts(const char *program); /* its name, without folders */
 void status_starts_not(void);
 void status_started(pid_t process, const char *program);

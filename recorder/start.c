@@ -10,7 +10,6 @@
 
 #include <errno.h>
 #include <fcntl.h>
-#include <stdio.h>
 #include <string.h>
 
 struct real real;
@@ -29,9 +28,11 @@ static pthread_mutex_t mutex = PTHREAD_MUTEX_INITIALIZER;
 static _Atomic bool recording;
 /* Of the thread that is inside: what it had outside. Where it is aside, it isn't cancelled in any case. */
 enum { CANCELLATION_KEPT = -1 };
-static int errno_outside, cancellation_outside;
-static sigset_t signals_outside;
-static bool signals_wait;
+static struct outside {
+    int error, cancellation;
+    bool signals_wait;
+    uint64_t signals;
+} outside;
 /* By its name the first of several recorders in a process is found; by the other name each finds itself. */
 EXPORT const char witness_recorder = 1;
 extern const char own_recorder __attribute__((alias("witness_recorder"), visibility("hidden")));
@@ -121,24 +122,9 @@ static bool tables_made(void)
 /* Leaves a file by which record tells a program without nested requests from one that the recorder wasn't in. */
 static void say_started(void)
 {
-    char path[512];
-    const char *directory = secure_getenv("RECORDER_DIRECTORY");
-    if (directory && snprintf(path, sizeof path, "%s/started", directory) < (int)sizeof path) {
-        int file = open(path, O_WRONLY | O_CREAT | O_CLOEXEC, 0600);
-        if (file >= 0)
-            close(file);
-    }
-}
-
-/* Those of faults come as they do without the recorder: the program may see to memory of its own by them. */
-static sigset_t kept_out;
-
-static void choose_signals(void)
-{
-    static const int faults[] = {SIGSEGV, SIGBUS, SIGFPE, SIGILL, SIGTRAP};
-    sigfillset(&kept_out);
-    for (size_t i = 0; i < sizeof faults / sizeof *faults; i++)
-        sigdelset(&kept_out, faults[i]);
+    int file = status_file("started", O_WRONLY | O_CREAT | O_CLOEXEC, 0600);
+    if (file >= 0)
+        close(file);
 }
 
 /* Makes all that recording needs, where the environment or the program wants it, and begins. Once in a process. */
@@ -149,7 +135,6 @@ static void awake(void)
         return;
     /* The words that it was started by may be overwritten later. */
     snprintf(program_name, sizeof program_name, "%s", program_invocation_short_name);
-    choose_signals();
     own_object();
     status_made();
     if (!tables_made()) {
@@ -251,7 +236,7 @@ static void stops_in_child(void)
     atomic_store(&recording, false);
     if (atomic_exchange(&counted, true))
         return;
-    status_forked();
+    status_begins();
     count_failure(FAILED_FORKED);
 }
 
@@ -261,42 +246,32 @@ static void stops_in_child(void)
  */
 bool recorder_enters(void)
 {
-    int before = errno;
+    struct outside it = {.error = errno, .cancellation = CANCELLATION_KEPT};
     if (!*alive)
         stops_in_child();
     if (!atomic_load(&recording))
         return false;
-    int cancellation = CANCELLATION_KEPT;
-    sigset_t signals;
     bool is_apart = is_aside((uintptr_t)__builtin_frame_address(0));
-    bool wait = atomic_load_explicit(&has_handlers, memory_order_relaxed) && !(is_apart && self.keeps_signals);
-    if (wait)
-        pthread_sigmask(SIG_BLOCK, &kept_out, &signals);
+    it.signals_wait = atomic_load_explicit(&has_handlers, memory_order_relaxed) && !(is_apart && self.keeps_signals);
+    if (it.signals_wait)
+        change_signals(SIG_BLOCK, ~FAULTS, &it.signals);
     if (!is_apart)
-        pthread_setcancelstate(PTHREAD_CANCEL_DISABLE, &cancellation);
+        pthread_setcancelstate(PTHREAD_CANCEL_DISABLE, &it.cancellation);
     real.pthread_mutex_lock(&mutex);
-    errno_outside = before;
-    cancellation_outside = cancellation;
-    signals_wait = wait;
-    if (wait)
-        signals_outside = signals;
+    outside = it;
     return true;
 }
 
 void recorder_leaves(void)
 {
-    int before = errno_outside, cancellation = cancellation_outside;
-    sigset_t signals;
-    bool wait = signals_wait;
-    if (wait)
-        signals = signals_outside;
+    struct outside it = outside;
     real.pthread_mutex_unlock(&mutex);
-    if (cancellation != CANCELLATION_KEPT)
-        pthread_setcancelstate(cancellation, NULL);
-    if (wait)
-        pthread_sigmask(SIG_SETMASK, &signals, NULL);
+    if (it.cancellation != CANCELLATION_KEPT)
+        pthread_setcancelstate(it.cancellation, NULL);
+    if (it.signals_wait)
+        change_signals(SIG_SETMASK, it.signals, NULL);
     judge_looks();
-    errno = before;
+    errno = it.error;
 }
 
 /*
@@ -318,7 +293,7 @@ static void begin_child(void *unused)
 {
     (void)unused;
     seats_forked();
-    status_forked();
+    status_begins();
     stream_forked();
     chains_forked();
     waiters_forked();

@@ -12,7 +12,6 @@
 #include <fcntl.h>
 #include <stdarg.h>
 #include <string.h>
-#include <sys/resource.h>
 #include <sys/stat.h>
 
 /* A line has room for a path of 4,096 bytes, each of which is escaped. */
@@ -43,6 +42,7 @@ static struct {
     bool is_long; /* the line doesn't fit */
 } stream;
 __attribute__((aligned(4096))) char asked_page[PAGE_BYTES];
+uint64_t stream_made_at;
 static size_t name_at; /* where the file's name begins in its path */
 #define NAME_OF(number, name) name,
 static const char *const missed_names[MISSES] = {EACH_MISSED(NAME_OF)};
@@ -114,17 +114,6 @@ void write_line(const char *words, ...)
     stream_append(false);
 }
 
-/* A file that grows over this limit ends the program. */
-static bool is_allowed(uint64_t size)
-{
-    struct rlimit limit;
-    if (getrlimit(RLIMIT_FSIZE, &limit) == 0 && limit.rlim_cur != RLIM_INFINITY && size > limit.rlim_cur) {
-        errno = EFBIG;
-        return false;
-    }
-    return true;
-}
-
 /*
  * A program of root's may give its rights up, and opens the file by its name again. Other users can't find that name:
  * they may not read the folder, which is in one of a name that was drawn by lot.
@@ -144,7 +133,8 @@ static bool window_opens(int flags)
 {
     void *window = MAP_FAILED;
     uint64_t size = stream.offset + WINDOW;
-    int file = is_allowed(size) ? open(stream.path, O_RDWR | O_CLOEXEC | flags, 0600) : -1;
+    errno = EFBIG;
+    int file = file_may_have(size) ? open(stream.path, O_RDWR | O_CLOEXEC | flags, 0600) : -1;
     if (file < 0)
         return false;
     if (flags & O_CREAT)
@@ -203,11 +193,11 @@ static bool grows(void)
     bool given = stream.ready < stream.end || window_opens(0);
     if (given && madvise(stream.ready, PIECE, MADV_POPULATE_WRITE) != 0)
         given = errno == EINVAL && piece_is_given();
+    stream.ended = !given;
     if (given)
         stream.ready += PIECE;
     else
-        stream.cause = cause_of(errno);
-    stream.ended = !given;
+        count_failure(stream.cause = cause_of(errno));
     return given;
 }
 
@@ -234,8 +224,8 @@ void stream_append(bool is_entry)
         stream.at += now;
         from += now;
         left -= now;
-        if (left > 0 && !grows())
-            count_failure(stream.cause);
+        if (left > 0)
+            grows();
     }
     stream.length = 0;
     stream.entries += is_entry;
@@ -286,22 +276,16 @@ bool stream_opens(void)
 {
     if (LIKELY(stream.begun && !stream.ended) || name_at == 0)
         return true;
-    if (stream.ended) {
-        count_failure(stream.cause);
-        return false;
+    bool is_there = !stream.ended && (stream.first || (stream.attempts < ATTEMPTS_MOST && file_opens()));
+    if (is_there && grows()) {
+        begin();
+        return true;
     }
-    if (!stream.first && (stream.attempts >= ATTEMPTS_MOST || !file_opens())) {
-        if (stream.attempts++ < ATTEMPTS_MOST)
-            stream.cause = cause_of(errno);
+    if (!stream.ended && stream.attempts++ < ATTEMPTS_MOST)
+        stream.cause = cause_of(errno);
+    if (!is_there)
         count_failure(stream.cause);
-        return false;
-    }
-    if (!grows()) {
-        count_failure(stream.cause);
-        return false;
-    }
-    begin();
-    return true;
+    return false;
 }
 
 /* Whether somebody who looks on has set the byte. */
@@ -322,17 +306,10 @@ uint64_t milliseconds(void)
     return (uint64_t)now.tv_sec * 1000 + (uint64_t)now.tv_nsec / 1000000;
 }
 
-static uint64_t made_at;
-
-uint64_t stream_time(void)
-{
-    return milliseconds() - made_at;
-}
-
 /* Makes the file. Where that fails, it is tried again when there is something to write. */
 static void file_is_made(void)
 {
-    made_at = milliseconds();
+    stream_made_at = milliseconds();
     if (name_at)
         file_opens();
 }

@@ -169,7 +169,7 @@ static void write_time(void)
 {
     static uint64_t told;
     static uint32_t told_life;
-    uint64_t time = stream_time();
+    uint64_t time = milliseconds() - stream_made_at;
     if (told_life == life && told == time)
         return;
     told_life = life;
