@@ -45,10 +45,22 @@ bool places_made(void)
     return places != NULL;
 }
 
-static bool ends_with(const char *name, const char *end)
+/* What follows in the name after the first of these that it begins with, NULL where it begins with none. */
+static const char *after_one_of(const char *name, const char *const *beginnings)
 {
-    size_t length = strlen(name), wanted = strlen(end);
-    return length >= wanted && strcasecmp(name + length - wanted, end) == 0;
+    for (; *beginnings; beginnings++)
+        if (strncmp(name, *beginnings, strlen(*beginnings)) == 0)
+            return name + strlen(*beginnings);
+    return NULL;
+}
+
+/* Whether the word ends with one of these, in letters of any case. */
+static bool ends_with_one_of(const char *word, const char *const *ends)
+{
+    bool does = false;
+    for (size_t length = strlen(word); *ends && !does; ends++)
+        does = length >= strlen(*ends) && strcasecmp(word + length - strlen(*ends), *ends) == 0;
+    return does;
 }
 
 /* The last word of a C++ name: `lock` of Mutex::lock, `Mutex` of Mutex's constructor; any other name as it is. */
@@ -101,35 +113,6 @@ static bool is_passed_over(const char *name)
     return false;
 }
 
-/* Whether the function is the C++ library's, by its name; *rest becomes what follows the namespace there. */
-static bool is_library(const char *name, const char **rest)
-{
-    static const char *const own[] = {"_ZNSt3__1", "_ZNKSt3__1", "_ZNSt", "_ZNKSt", "_ZSt"};
-    for (size_t i = 0; i < sizeof own / sizeof *own; i++)
-        if (strncmp(name, own[i], strlen(own[i])) == 0) {
-            *rest = name + strlen(own[i]);
-            return true;
-        }
-    return false;
-}
-
-/* What kind of a function of the C++ library begins so, after the namespace. */
-static uint8_t library_detour(const char *name)
-{
-    /* A thread's way to its function, which is often inlined there: behind it there is nothing of the program. */
-    static const char *const runs[] = {"6thread11_State_impl", "14__thread_proxy"};
-    static const char *const locks[] = {"5mutex", "10lock_guard", "11unique_lock", "11scoped_lock", "11shared_lock",
-        "11timed_mutex", "12shared_mutex", "12__mutex_base", "15recursive_mutex", "18shared_timed_mutex",
-        "21recursive_timed_mutex", "22__shared_mutex_pthread"};
-    for (size_t i = 0; i < sizeof runs / sizeof *runs; i++)
-        if (strncmp(name, runs[i], strlen(runs[i])) == 0)
-            return DETOUR_NONE;
-    for (size_t i = 0; i < sizeof locks / sizeof *locks; i++)
-        if (strncmp(name, locks[i], strlen(locks[i])) == 0)
-            return DETOUR_WRAPPER;
-    return DETOUR_LIBRARY;
-}
-
 /*
  * By the name of a function and its size: whether it does something with a lock and little else. What stands in for one of
  * pthread's, as ThreadSanitizer does, may do more.
@@ -137,20 +120,14 @@ static uint8_t library_detour(const char *name)
 static bool is_wrapper(const char *name, uint64_t size)
 {
     static const char *const within[] = {LIBRARY_WRAPPERS};
-    static const char *const others[] = {NO_WRAPPER_ENDS};
-    static const char *const ends[] = {WRAPPER_ENDS};
+    static const char *const others[] = {NO_WRAPPER_ENDS, NULL}, *const ends[] = {WRAPPER_ENDS, NULL};
     char word[WORD_MOST];
     for (size_t i = 0; i < sizeof within / sizeof *within; i++)
         if (strstr(name, within[i]))
             return true;
     last_word(name, word);
-    for (size_t i = 0; i < sizeof others / sizeof *others; i++)
-        if (ends_with(word, others[i]))
-            return false;
-    for (size_t i = 0; i < sizeof ends / sizeof *ends; i++)
-        if (ends_with(word, ends[i]))
-            return size <= WRAPPER_BYTES || strncmp(word, "pthread_", 8) == 0;
-    return false;
+    return !ends_with_one_of(word, others) && ends_with_one_of(word, ends)
+        && (size <= WRAPPER_BYTES || strncmp(word, "pthread_", 8) == 0);
 }
 
 /* Whether the function is one of Rust's own libraries, or of the crate that annotates locks, by its mangled name. */
@@ -176,28 +153,30 @@ static bool is_of_rust(const char *name)
 /* Whether the function does little else than take memory for its caller: operator new, xmalloc. */
 static bool is_taker(const char *name, uint64_t size)
 {
-    static const char *const ends[] = {TAKER_ENDS};
+    static const char *const news[] = {"_Znw", "_Zna", NULL}, *const ends[] = {TAKER_ENDS, NULL};
     char word[WORD_MOST];
-    if (strncmp(name, "_Znw", 4) == 0 || strncmp(name, "_Zna", 4) == 0)
-        return true;
     last_word(name, word);
-    for (size_t i = 0; size <= WRAPPER_BYTES && i < sizeof ends / sizeof *ends; i++)
-        if (ends_with(word, ends[i]))
-            return true;
-    return false;
+    return after_one_of(name, news) || (size <= WRAPPER_BYTES && ends_with_one_of(word, ends));
 }
 
 static uint8_t detour_of(const char *name, uint64_t size)
 {
-    const char *rest;
+    static const char *const library[] = {"_ZNSt3__1", "_ZNKSt3__1", "_ZNSt", "_ZNKSt", "_ZSt", NULL};
+    static const char *const of_compiler[] = {"_ZN9__gnu_cxx", "_ZNK9__gnu_cxx", NULL};
+    /* A thread's way to its function, which is often inlined there: behind it there is nothing of the program. */
+    static const char *const runs[] = {"6thread11_State_impl", "14__thread_proxy", NULL};
+    static const char *const locks[] = {"5mutex", "10lock_guard", "11unique_lock", "11scoped_lock", "11shared_lock",
+        "11timed_mutex", "12shared_mutex", "12__mutex_base", "15recursive_mutex", "18shared_timed_mutex",
+        "21recursive_timed_mutex", "22__shared_mutex_pthread", NULL};
+    const char *in_library = after_one_of(name, library);
     if (is_passed_over(name))
         return DETOUR_WRAPPER;
-    if (is_of_rust(name))
+    if (is_of_rust(name) || after_one_of(name, of_compiler))
         return DETOUR_LIBRARY;
-    if (is_library(name, &rest))
-        return library_detour(rest);
-    if (strncmp(name, "_ZN9__gnu_cxx", 13) == 0 || strncmp(name, "_ZNK9__gnu_cxx", 14) == 0)
-        return DETOUR_LIBRARY;
+    if (in_library)
+        return after_one_of(in_library, runs) ? DETOUR_NONE
+            : after_one_of(in_library, locks) ? DETOUR_WRAPPER
+                                              : DETOUR_LIBRARY;
     return is_wrapper(name, size) ? DETOUR_WRAPPER : DETOUR_NONE;
 }
 

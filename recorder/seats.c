@@ -12,7 +12,7 @@
 
 /* Who had each seat last, and is named for it. */
 static const struct thread *sitters[SEATS + 1];
-static uint64_t seats_lent[SEATS / 64];
+static bool seats_lent[SEATS + 1];
 static uint32_t seats_begun; /* that a thread has had */
 static bool are_lent;        /* there were more threads than seats */
 static uint32_t types_numbered;
@@ -29,20 +29,15 @@ uint32_t *mark(struct marks *marks)
     return &marks->number;
 }
 
-static bool is_lent(uint32_t seat)
-{
-    return seats_lent[(seat - 1) / 64] >> (seat - 1) % 64 & 1;
-}
-
 /* A seat for the thread: the one that it had, one that nobody has had, or one that is free now. More than SEATS for none. */
 static uint32_t seat_for(const struct thread *thread)
 {
     uint32_t seat = thread->last_seat;
-    if (seat != 0 && !is_lent(seat))
+    if (seat != 0 && !seats_lent[seat])
         return seat;
     if (seats_begun < SEATS)
         return ++seats_begun;
-    for (seat = 1; seat <= SEATS && is_lent(seat); seat++)
+    for (seat = 1; seat <= SEATS && seats_lent[seat]; seat++)
         ;
     return seat;
 }
@@ -60,7 +55,7 @@ bool seat_found(struct thread *thread)
         are_lent = true;
         write_line(WORD_LENT);
     }
-    seats_lent[(seat - 1) / 64] |= (uint64_t)1 << (seat - 1) % 64;
+    seats_lent[seat] = true;
     thread->seat = thread->last_seat = seat;
     sitters[seat] = thread;
     if (!is_named)
@@ -79,10 +74,9 @@ bool seat_taken(struct thread *thread)
 /* Gives the seat back where nothing of the thread stands in the stream any longer. */
 void seat_given_back(struct thread *thread)
 {
-    uint32_t seat = thread->seat;
-    if (seat == 0 || thread->written != 0)
+    if (thread->written != 0)
         return;
-    seats_lent[(seat - 1) / 64] &= ~((uint64_t)1 << (seat - 1) % 64);
+    seats_lent[thread->seat] = false;
     thread->seat = 0;
 }
 
