@@ -22,16 +22,13 @@ enum { KEYS_WITHOUT_MEMORY = 32 };
 static bool is_new(enum lock_error error, uint32_t place)
 {
     uint64_t wanted = (uint64_t)life << 40 | (uint64_t)place << 8 | (uint64_t)error | 0x80;
-    for (uint32_t tries = 0, slot = (uint32_t)(wanted * 0x9e3779b97f4a7c15u >> 54); tries < ERRORS_MOST; tries++) {
-        if (known[slot] == wanted)
-            return false;
-        if (known[slot] == 0) {
-            known[slot] = wanted;
-            return true;
-        }
-        slot = (slot + 1) % ERRORS_MOST;
-    }
-    return false;
+    uint32_t slot = 0;
+    while (slot < ERRORS_MOST && known[slot] != 0 && known[slot] != wanted)
+        slot++;
+    bool is = slot < ERRORS_MOST && known[slot] == 0;
+    if (is)
+        known[slot] = wanted;
+    return is;
 }
 
 /* A robust mutex is meant for it that its holder ends. Its memory may be gone. */

@@ -138,12 +138,11 @@ static bool are_kin(const struct type *type, const struct type *wanted)
 /* Its kin are as many as may be told by their offsets: from here on none is, nor was. */
 static COLD void crowd(struct type *kin, const struct type *wanted)
 {
-    for (; kin; kin = kin->next) {
-        if (!are_kin(kin, wanted) || kin->crowded)
-            continue;
-        kin->crowded = true;
-        write_crowded(kin);
-    }
+    for (; kin; kin = kin->next)
+        if (are_kin(kin, wanted) && !kin->crowded) {
+            kin->crowded = true;
+            write_crowded(kin);
+        }
 }
 
 /* Kin is in one bucket. */
@@ -159,13 +158,8 @@ static struct type *type_of(const struct type *wanted)
 {
     struct type **bucket = type_bucket(wanted), *type = *bucket;
     uint32_t kin = 0;
-    for (; type; type = type->next) {
-        if (!are_kin(type, wanted))
-            continue;
-        if (type->part == wanted->part)
-            break;
-        kin++;
-    }
+    for (; type && !(are_kin(type, wanted) && type->part == wanted->part); type = type->next)
+        kin += are_kin(type, wanted);
     if (type && !type->crowded)
         return type;
     if (type || kin == OFFSETS_MOST) {
@@ -354,33 +348,8 @@ static void look_for_block(struct type *wanted)
     memcpy(wanted->places, takers, sizeof wanted->places);
 }
 
-/* A lock at its first use: its record, or NULL where it can't be recorded. */
-COLD struct lock *lock_met(const void *address, enum class class, struct caller caller)
+static uintptr_t anchor_of(uint32_t object, uintptr_t address)
 {
-    struct type wanted = {.class = class, .met = true, .address = (uintptr_t)address};
-    uint32_t places[DEPTH_MOST] = {0};
-    /* This comes before the search for the lock's object, since it looks for objects that are new. */
-    places_of(caller, places);
-    int kind = kind_at(address, class);
-    ENTERS_OR(return NULL);
-    struct lock *lock = lock_at(address);
-    if (lock)
-        return lock;
-    wanted.object = object_of((uintptr_t)address, false);
-    if (wanted.object) {
-        wanted.anchor = anchor_of_met(wanted.object, (uintptr_t)address);
-    } else {
-        memcpy(wanted.places, places, sizeof places);
-        look_for_block(&wanted);
-    }
-    return add(address, &wanted, kind);
-}
-
-static uintptr_t anchor_of(uintptr_t address)
-{
-    uint32_t object = object_of(address, false);
-    if (!object)
-        return 0;
     uint32_t slot = (uint32_t)(address >> 3) % ANCHORS;
     if (anchors[slot].address != address) {
         uint64_t size;
@@ -391,39 +360,54 @@ static uintptr_t anchor_of(uintptr_t address)
     return anchors[slot].from;
 }
 
-struct making {
+/* A lock comes to be known: by its first use, or by an init call, which may give its type a name. */
+struct coming {
     const void *address;
     enum class class;
     struct caller caller;
+    bool met;
     const char *type;
+    struct lock *lock; /* its record, or NULL where it can't be recorded */
 };
 
-static void make(void *argument)
+static void come(void *argument)
 {
-    const struct making *it = argument;
-    struct type wanted = {.class = it->class, .address = (uintptr_t)it->address};
+    struct coming *it = argument;
+    struct type wanted = {.class = it->class, .met = it->met, .address = (uintptr_t)it->address};
+    /* This comes before the search for the lock's object, since it looks for objects that are new. */
     places_of(it->caller, wanted.places);
     int kind = kind_at(it->address, it->class);
     ENTERS_OR(return);
-    struct lock *before = lock_at(it->address);
-    if (before)
-        forget(before, false);
+    it->lock = lock_at(it->address);
+    if (it->lock && it->met)
+        return;
+    if (it->lock)
+        forget(it->lock, false);
     wanted.label = type_label(it->type);
-    if (!wanted.label) {
+    if (!wanted.label)
         wanted.object = object_of(wanted.address, false);
-        wanted.anchor = anchor_of(wanted.address);
-        if (!wanted.object)
-            look_for_block(&wanted);
-    }
-    add(it->address, &wanted, kind);
+    if (wanted.object)
+        wanted.anchor = it->met ? anchor_of_met(wanted.object, wanted.address) : anchor_of(wanted.object, wanted.address);
+    else if (!wanted.label)
+        look_for_block(&wanted);
+    if (wanted.object && it->met)
+        memset(wanted.places, 0, sizeof wanted.places);
+    it->lock = add(it->address, &wanted, kind);
+}
+
+COLD struct lock *lock_met(const void *address, enum class class, struct caller caller)
+{
+    struct coming it = {address, class, caller, true, NULL, NULL};
+    come(&it);
+    return it.lock;
 }
 
 /* An init call has made a lock there, of a type of that name; NULL where it is to be told by variable and callers. */
 void lock_made_as(const void *address, enum class class, struct caller caller, const char *type)
 {
-    struct making it = {address, class, caller, type};
+    struct coming it = {address, class, caller, false, type, NULL};
     GOES_INSIDE_OR(caller.stack, return);
-    aside(make, &it);
+    aside(come, &it);
 }
 
 /* The lock there was destroyed. */

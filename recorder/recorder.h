@@ -710,7 +710,7 @@ bool seat_found(struct thread *thread); /* as seat_taken, where it needn't have 
 void seat_given_back(struct thread *thread);
 uint32_t lock_number(struct thread *thread, struct lock *lock);
 uint32_t lock_number_for_pair(struct thread *thread, struct lock *lock);
-uint32_t type_number_for_pair(struct type *type); /* 0 where there is no room for it */
+uint32_t type_numbered(struct type *type); /* its number in the stream, 0 where there is no room for it */
 bool type_fits(struct type *type);
 void number_stands(struct thread *thread, uint32_t number);
 void number_stands_no_more(struct thread *thread, uint32_t number);

@@ -80,30 +80,23 @@ void seat_given_back(struct thread *thread)
     thread->seat = 0;
 }
 
-static bool type_is_numbered(struct type *type)
-{
-    uint32_t *number = mark(&type->marks);
-    if (*number == 0) {
-        if (types_numbered == TYPES) {
-            count_missed(MISSED_TYPES);
-            *number = NUMBER_NONE;
-        } else {
-            *number = ++types_numbered;
-            write_type(type);
-        }
-    }
-    return *number != NUMBER_NONE;
-}
-
-uint32_t type_number_for_pair(struct type *type)
-{
-    return type_is_numbered(type) ? *mark(&type->marks) : 0;
-}
-
 /* False of a type that was met when the stream had room for no further one. */
 bool type_fits(struct type *type)
 {
     return *mark(&type->marks) != NUMBER_NONE;
+}
+
+uint32_t type_numbered(struct type *type)
+{
+    uint32_t *number = mark(&type->marks);
+    if (*number == 0 && types_numbered == TYPES) {
+        count_missed(MISSED_TYPES);
+        *number = NUMBER_NONE;
+    } else if (*number == 0) {
+        *number = ++types_numbered;
+        write_type(type);
+    }
+    return type_fits(type) ? *number : 0;
 }
 
 /*
@@ -115,7 +108,7 @@ uint32_t lock_number(struct thread *thread, struct lock *lock)
     uint32_t *number = mark(&lock->marks);
     uint32_t *named = mark(&lock->name->marks);
     if (*number == 0) {
-        if (!type_is_numbered(lock->type)) {
+        if (!type_numbered(lock->type)) {
             *number = NUMBER_NONE;
         } else if (*named != 0 && holders[*named] == 0) {
             *number = *named;

@@ -13,7 +13,7 @@ static void put_letters(const char *letters)
 /* A lock in one of its roles: what stands for its mode, and a letter for each thing that is told of it. */
 static void put_lock(struct thread *thread, struct lock *lock, bool is_shared, const char *how)
 {
-    line_put(" %u %u %u %c", lock_number_for_pair(thread, lock), lock->serial, type_number_for_pair(lock->type),
+    line_put(" %u %u %u %c", lock_number_for_pair(thread, lock), lock->serial, type_numbered(lock->type),
         is_shared ? 's' : 'x');
     put_letters(how);
 }
@@ -29,7 +29,7 @@ static const struct held *held_by_serial(const struct thread *thread, uint32_t b
 /* What a line names is declared before it. */
 static void declare(struct thread *thread, struct lock *lock)
 {
-    type_number_for_pair(lock->type);
+    type_numbered(lock->type);
     lock_number_for_pair(thread, lock);
 }
 
