@@ -348,13 +348,6 @@ static void released(struct thread *thread, struct held *held)
     take_out(thread, held);
 }
 
-static COLD void released_by_another(struct thread *thread, struct lock *lock, struct caller caller)
-{
-    write_released_by_another(thread, lock, place_of(caller));
-    if (lock && lock->loses)
-        lock_given_up(lock);
-}
-
 struct release {
     const void *address;
     struct caller caller;
@@ -375,8 +368,11 @@ static __attribute__((noinline)) void release(void *argument)
         thread->unseen--;
     } else {
         struct lock *lock = lock_at(it->address);
-        if (!release_was_told(lock))
-            released_by_another(thread, lock, it->caller);
+        bool was_told = release_was_told(lock);
+        if (!was_told)
+            write_released_by_another(thread, lock, place_of(it->caller));
+        if (!was_told && lock && lock->loses)
+            lock_given_up(lock);
     }
     goes_outside(thread);
 }

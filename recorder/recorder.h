@@ -730,7 +730,6 @@ void write_unlock(struct thread *thread, struct held *held);
 void write_waits_again(struct request *request);
 void write_goes_on(const struct request *request);
 void write_released_by_another(struct thread *thread, struct lock *lock, uint32_t place);
-bool stream_has_room(void);
 /* To the end of the block the thread has a seat. Where the stream has no room, or there is no seat, OTHERWISE comes. */
 #define SEATED_OR(sitter, otherwise)                                                                                   \
     __attribute__((cleanup(seat_goes_again))) struct thread *seated                                                    \
@@ -767,11 +766,11 @@ void stream_append(bool is_entry); /* the line, which ends with this */
 void write_line(const char *words, ...) __attribute__((format(printf, 1, 2))); /* which is no entry of the verifier's log */
 uint64_t milliseconds(void); /* by the clock that only goes on */
 bool stream_opens(void);
+bool stream_has_room(void);
 extern uint64_t stream_made_at; /* when the process, or the fork, began, in milliseconds */
 bool stream_is_asked(void);
 void stream_is_answered(void);
 bool stream_has_file(void); /* else their lines are judged alone */
-uint32_t stream_entries(void);
 void count_missed(enum missed what);
 void count_missed_outside(enum missed what);
 bool stream_made(void);

@@ -49,7 +49,7 @@ static uint32_t slot_of(const uint32_t *found, uint32_t count)
 /* As stack_of; *is_new becomes true where the stack wasn't there before. */
 static uint32_t stack_found(struct caller caller, bool *is_new)
 {
-    uint32_t found[FRAMES_MOST], number = 0;
+    uint32_t found[FRAMES_MOST];
     if (!stacks || caller.pc == 0)
         return 0;
     uint32_t count = callers(caller, frames_shown, found);
@@ -60,16 +60,15 @@ static uint32_t stack_found(struct caller caller, bool *is_new)
         return slot + 1;
     ENTERS_OR(return 0);
     slot = slot_of(found, count);
-    if (stacks[slot].count != 0) {
-        number = slot + 1;
-    } else if (stacks_met < STACKS / 4 * 3) {
-        stacks_met++;
-        memcpy(stacks[slot].places, found, count * sizeof *found);
-        atomic_store_explicit(&stacks[slot].count, count, memory_order_release);
-        number = slot + 1;
-        *is_new = true;
-    }
-    return number;
+    if (stacks[slot].count != 0)
+        return slot + 1;
+    if (stacks_met >= STACKS / 4 * 3)
+        return 0;
+    stacks_met++;
+    memcpy(stacks[slot].places, found, count * sizeof *found);
+    atomic_store_explicit(&stacks[slot].count, count, memory_order_release);
+    *is_new = true;
+    return slot + 1;
 }
 
 /* The number of the callers' stack; 0 where none is wanted, or there is no room. No mutex is held. */

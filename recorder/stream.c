@@ -236,11 +236,6 @@ bool stream_has_file(void)
     return name_at != 0;
 }
 
-uint32_t stream_entries(void)
-{
-    return stream.entries;
-}
-
 /* A file that nobody has: a process may have had this one's number, or have been this one before an exec. */
 static bool file_opens(void)
 {
@@ -285,6 +280,19 @@ bool stream_opens(void)
         stream.cause = cause_of(errno);
     if (!is_there)
         count_failure(stream.cause);
+    return false;
+}
+
+/* What the seats may owe the log at most: all locks that they hold, and a request for each seat. */
+#define OWED_MOST (SEATS * (HELD_MOST + 2))
+
+bool stream_has_room(void)
+{
+    if (!stream_opens())
+        return false;
+    if (stream.entries < LOG_LIMIT - OWED_MOST)
+        return true;
+    count_missed(MISSED_LOG);
     return false;
 }
 

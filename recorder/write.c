@@ -37,9 +37,6 @@
 #include <string.h>
 #include <sys/syscall.h>
 
-/* What the seats may owe the log at most: all locks that they hold, and a request for each seat. */
-#define OWED_MOST (SEATS * (HELD_MOST + 2))
-
 /*
  * `thread SEAT NAME PLACE NUMBER`: its name, `-` where it has its program's; where it was made, 0 where that isn't known;
  * and its number as the kernel counts threads.
@@ -55,16 +52,6 @@ void write_thread(const struct thread *thread)
             *at = '_';
     uint32_t made = place_number(thread->made);
     write_line(WORD_THREAD " %u %s %u %lu", thread->seat, name, made, (uint64_t)thread_number(thread));
-}
-
-bool stream_has_room(void)
-{
-    if (!stream_opens())
-        return false;
-    if (stream_entries() < LOG_LIMIT - OWED_MOST)
-        return true;
-    count_missed(MISSED_LOG);
-    return false;
 }
 
 /* A line that is no call of the trace: its word, the seat, the lock and the place. */
