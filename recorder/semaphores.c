@@ -3,9 +3,7 @@
  * on. It counts as a lock as long as each thread that posts it is the one that has waited for it, and no thread waits for
  * what it has. Once that isn't so it is left alone, as all others are; its record stays, since others may wait for it.
  */
-#include "quick.h"
-
-#include <errno.h>
+#include "ways.h"
 
 bool semaphores_are_locks;
 
@@ -46,7 +44,12 @@ static bool begins(struct request *request, sem_t *semaphore, enum asking asking
         leave_alone(lock);
         return false;
     }
-    return lock && request_begins(request, semaphore, SEMAPHORE, EXCLUSIVE, caller, asking);
+    bool begun = lock && request_begins(request, semaphore, SEMAPHORE, EXCLUSIVE, caller, asking);
+    if (UNLIKELY(steers) && begun && asking == ASKS)
+        request->patient |= steer_asks(request);
+    else if (UNLIKELY(steers) && begun && asking == ASKS_FOR_A_TIME)
+        steer_counts(request);
+    return begun;
 }
 
 static int ends(struct request *request, sem_t *semaphore, int answer)
@@ -58,18 +61,18 @@ static int ends(struct request *request, sem_t *semaphore, int answer)
     return answer;
 }
 
-/* As a lock's call does: a request that isn't written yet waits for a second first. */
-static int wait_patiently(struct request *request, sem_t *semaphore)
+/* As a lock's call does: a request that isn't written yet waits for a second first, or in a steered run for less. */
+static int wait_a_second(struct request *request, sem_t *semaphore)
 {
-    struct timespec limit;
     if (real.sem_trywait(semaphore) == 0)
         return 0;
-    clock_gettime(CLOCK_REALTIME, &limit);
-    limit.tv_sec++;
+    struct timespec limit = time_from_now(steers ? STEERED_PATIENCE : PATIENCE);
     int answer = real.sem_timedwait(semaphore, &limit);
     if (answer == 0 || errno != ETIMEDOUT)
         return answer;
     request_waits(request);
+    if (UNLIKELY(steers))
+        steer_waits(request);
     return real.sem_wait(semaphore);
 }
 
@@ -97,7 +100,7 @@ EXPORT int sem_wait(sem_t *semaphore)
     struct request request;
     if (!begins(&request, semaphore, ASKS, CALLER))
         return real.sem_wait(semaphore);
-    int answer = request.patient ? wait_patiently(&request, semaphore) : real.sem_wait(semaphore);
+    int answer = request.patient ? wait_a_second(&request, semaphore) : real.sem_wait(semaphore);
     return ends(&request, semaphore, answer);
 }
 

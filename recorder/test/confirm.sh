@@ -163,3 +163,15 @@ if wanted elsewhere; then
         echo "left out  elsewhere: there is no valgrind"
     fi
 fi
+
+# Threads pause before locks that the program tells of, and before semaphores, too. These name no holder.
+if wanted toldlocks; then
+    compile toldlocks
+    for words in "" "--semaphores"; do
+        RECORD_FRAMES=8 timeout 100 "$record" $words --confirm=2 --confirm-time 20 -- ./toldlocks $words >recorded.out 2>recorded.err </dev/null
+        grep -q 'not confirmed in 2 runs: @ [^ ]*toldlocks.c:41 was reached [1-9]\|not confirmed: seemed to hang in run [12], but not each lock says who holds it' recorded.err &&
+            ! grep -q 'was never reached' recorded.err
+        tell toldlocks "a steered run comes to locks that aren't pthread's${words:+ ($words)}" $? || cat recorded.err
+    done
+    words=
+fi
