@@ -4,7 +4,6 @@
  * recorded: a seat asks for one lock at a time.
  */
 #include "quick.h"
-#include "steer.h"
 
 #include "witness.h"
 
@@ -58,8 +57,6 @@ static void ask(const volatile void *lock, int how, struct caller caller)
         asks = true;
         if (UNLIKELY(asked.again != NULL) && asked.mode == SHARED)
             error_of_reread(&asked);
-        if (UNLIKELY(steers))
-            steer_asks(&asked);
         self.state = STARTING;
     }
     site_callers_end();

@@ -82,8 +82,6 @@ static int c11(int answer)
     {                                                                                                                  \
         struct request request;                                                                                        \
         bool begun = request_begins(&request, lock, (way).class, (way).mode, CALLER, ASKS_FOR_A_TIME);                 \
-        if (UNLIKELY(steers) && begun)                                                                                 \
-            steer_counts(&request);                                                                                    \
         int answer = (real_call);                                                                                      \
         if (begun)                                                                                                     \
             request_ends(&request, is_got(answer));                                                                    \

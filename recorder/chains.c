@@ -233,6 +233,8 @@ bool request_begins(struct request *request, const void *address, enum class cla
     /* All of the request is written: the process may end here. */
     if (it.begun)
         judge_tells(caller);
+    if (UNLIKELY(steers) && it.begun && asking != TRIES && steer_asks(request))
+        request->patient = true;
     return it.begun;
 }
 

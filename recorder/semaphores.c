@@ -44,12 +44,7 @@ static bool begins(struct request *request, sem_t *semaphore, enum asking asking
         leave_alone(lock);
         return false;
     }
-    bool begun = lock && request_begins(request, semaphore, SEMAPHORE, EXCLUSIVE, caller, asking);
-    if (UNLIKELY(steers) && begun && asking == ASKS)
-        request->patient |= steer_asks(request);
-    else if (UNLIKELY(steers) && begun && asking == ASKS_FOR_A_TIME)
-        steer_counts(request);
-    return begun;
+    return lock && request_begins(request, semaphore, SEMAPHORE, EXCLUSIVE, caller, asking);
 }
 
 static int ends(struct request *request, sem_t *semaphore, int answer)

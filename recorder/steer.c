@@ -83,7 +83,7 @@ void steer_begins(void)
         uint32_t bytes, orders;
     } head; /* as the plan begins */
     int file = path && *path ? open(path, O_RDWR | O_CLOEXEC) : -1;
-    bool is_sound = pread(file, &head, sizeof head, 0) == sizeof head && head.mark == PLAN_MARK
+    bool is_sound = file >= 0 && pread(file, &head, sizeof head, 0) == sizeof head && head.mark == PLAN_MARK
         && head.bytes == sizeof *plan && head.orders <= PLAN_ORDERS && lseek(file, 0, SEEK_END) == (off_t)sizeof *plan;
     void *mapped = is_sound ? mmap(NULL, sizeof *plan, PROT_READ | PROT_WRITE, MAP_SHARED, file, 0) : MAP_FAILED;
     if (file >= 0)
@@ -383,15 +383,12 @@ static void make_noise(const struct thread *thread)
     sleep_on(&nothing, length);
 }
 
-void steer_counts(const struct request *request)
-{
-    arrives(request);
-}
-
 bool steer_asks(const struct request *request)
 {
     struct thread *thread = request->thread;
     struct arrival arrival = arrives(request);
+    if (request->timed || request->repeats)
+        return false;
     if ((arrival.hold < PLAN_ORDERS || arrival.ask < PLAN_ORDERS) && may_pause(thread)) {
         if (arrival.hold < PLAN_ORDERS)
             stand(request, AT_HOLD, arrival.hold);
