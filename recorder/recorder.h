@@ -212,8 +212,8 @@ struct held {
 /* What `how` is of a lock that was acquired once, in that mode, and isn't written. */
 #define HOW_ONCE(mode) ((uint64_t)(mode) << 32 | 1)
 /*
- * IS_WRITTEN: the stream has it held. KEPT_ON: since the lock was acquired, a request with a time limit has ended without its lock
- * (repeats.c). What is released quickly isn't written, so such a lock isn't.
+ * IS_WRITTEN: the stream has it held. KEPT_ON: since the lock was acquired, a request with a time limit has ended
+ * without its lock (repeats.c). What is released quickly isn't written, so such a lock isn't.
  */
 enum { IS_WRITTEN = 1, KEPT_ON = 2 };
 
@@ -434,8 +434,8 @@ static inline void goes_out_again(const bool *inside)
 }
 
 /*
- * To the end of the block the thread holds the mutex; or it is inside the recorder, and its calls aren't recorded. Where that
- * can't be, OTHERWISE comes.
+ * To the end of the block the thread holds the mutex; or it is inside the recorder, and its calls aren't recorded. Where
+ * that can't be, OTHERWISE comes.
  */
 #define ENTERS_OR(otherwise)                                                                                           \
     __attribute__((cleanup(leaves_again), unused)) bool entered = recorder_enters();                                   \
@@ -645,8 +645,8 @@ void stack_stands(uint32_t number);
 /* asked.c */
 bool lock_read(const struct lock *lock, void *to, size_t bytes); /* false where its memory is gone */
 /*
- * The thread that a mutex or a rwlock itself names as its holder, as the kernel counts threads; 0 where it names none, or can't
- * be read. A reader isn't named.
+ * The thread that a mutex or a rwlock itself names as its holder, as the kernel counts threads; 0 where it names none,
+ * or can't be read. A reader isn't named.
  */
 int32_t lock_holder(const struct lock *lock);
 void answer(struct thread *thread);
@@ -758,8 +758,8 @@ size_t word_escaped(const char *word, char *to, size_t room);
 
 /* stream.c */
 /*
- * Puts words to the line: of printf's, %u and %lu stand for numbers, %lx for one in hexadecimal digits, %c for a byte, and %s
- * for a word as words.c has it, NO_NAME for an empty one.
+ * Puts words to the line: of printf's, %u and %lu stand for numbers, %lx for one in hexadecimal digits, %c for a byte,
+ * and %s for a word as words.c has it, NO_NAME for an empty one.
  */
 void line_put(const char *words, ...) __attribute__((format(printf, 1, 2)));
 void stream_append(bool is_entry); /* the line, which ends with this */

@@ -276,9 +276,9 @@ COLD void write_unlock(struct thread *thread, struct held *held)
 }
 
 /*
- * The thread waits for a lock that it holds, and what it holds is written before: `again SEAT LOCK PLACE` where it can't have it
- * twice. As a reader it has waited for a second, and asks for it; when it gets it, the stream has it as given up, since what is
- * acquired again isn't in it.
+ * The thread waits for a lock that it holds, and what it holds is written before: `again SEAT LOCK PLACE` where it can't
+ * have it twice. As a reader it has waited for a second, and asks for it; when it gets it, the stream has it as given
+ * up, since what is acquired again isn't in it.
  */
 COLD void write_waits_again(struct request *request)
 {
@@ -393,8 +393,8 @@ static uint32_t places_in(const uint32_t places[DEPTH_MOST])
 }
 
 /*
- * `type NUMBER variable` and the variable of its first lock, `type NUMBER named NAME`, `type NUMBER part OFFSET COUNT` and so
- * many places of a first use, `type NUMBER met` or `type NUMBER made`; then the places that it comes from.
+ * `type NUMBER variable` and the variable of its first lock, `type NUMBER named NAME`, `type NUMBER part OFFSET COUNT`
+ * and so many places of a first use, `type NUMBER met` or `type NUMBER made`; then the places that it comes from.
  */
 void write_type(struct type *type)
 {
