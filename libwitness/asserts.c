@@ -125,10 +125,8 @@ static void ask(struct question *question, const struct thread *thread, const vo
 static void ask_inside(void *argument)
 {
     struct question *question = argument;
-    if (!recorder_enters())
-        return;
+    ENTERS_OR(return);
     ask(question, &self, question->address);
-    recorder_leaves();
 }
 
 /* The answer of the verifier; 0 where it can't be asked. */

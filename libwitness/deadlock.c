@@ -114,17 +114,18 @@ static void keep_itself(const struct request *request)
         memcpy(kept, text, (size_t)length);
 }
 
-void judge_waits(const struct request *request)
+void judge_waits(void *argument)
 {
+    const struct request *request = argument;
     uint16_t seats[SEATS];
-    if (action == UNWATCHED || !recorder_enters())
+    if (action == UNWATCHED)
         return;
+    ENTERS_OR(return);
     int64_t count = request->again ? 0 : circle_of(request->thread, seats);
     if (request->again_refused)
         keep_itself(request);
     else if (count > 0)
         keep_circle(seats, count);
-    recorder_leaves();
 }
 
 void deadlock_acts(void)

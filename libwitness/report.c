@@ -169,10 +169,10 @@ static void act(void)
 
 static void call_program(const struct witness_report *report)
 {
-    real.mutex_lock(&given);
+    real.pthread_mutex_lock(&given);
     void (*function)(const struct witness_report *, void *) = program_function;
     void *data = program_data;
-    real.mutex_unlock(&given);
+    real.pthread_mutex_unlock(&given);
     if (function)
         function(report, data);
 }
@@ -236,8 +236,8 @@ void reports_forked(void)
 EXPORT void witness_on_report(void (*function)(const struct witness_report *, void *), void *data)
 {
     start();
-    real.mutex_lock(&given);
+    real.pthread_mutex_lock(&given);
     program_function = function;
     program_data = data;
-    real.mutex_unlock(&given);
+    real.pthread_mutex_unlock(&given);
 }

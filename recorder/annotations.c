@@ -62,16 +62,6 @@ static void ask(const volatile void *lock, int how, struct caller caller)
     site_callers_end();
 }
 
-EXPORT void witness_recorder_asked(const volatile void *lock, int how)
-{
-    ask(lock, how, CALLER);
-}
-
-EXPORT void witness_recorder_asked_at(const volatile void *lock, int how, unsigned place)
-{
-    ask(lock, how, site_or(place, CALLER));
-}
-
 EXPORT void witness_recorder_acquired(const volatile void *lock)
 {
     if (asks)
@@ -90,16 +80,6 @@ static void try(const volatile void *lock, int how, struct caller caller)
     if (!asks && request_begins(&request, (const void *)lock, class_of(how), mode_of(how), caller, TRIES))
         request_ends(&request, true);
     site_callers_end();
-}
-
-EXPORT void witness_recorder_tried(const volatile void *lock, int how)
-{
-    try(lock, how, CALLER);
-}
-
-EXPORT void witness_recorder_tried_at(const volatile void *lock, int how, unsigned place)
-{
-    try(lock, how, site_or(place, CALLER));
 }
 
 /* The lock whose release this thread has told last, by its serial; 0 of none. */
@@ -123,18 +103,27 @@ bool release_was_told(const struct lock *lock)
     return was_told;
 }
 
-EXPORT void witness_recorder_released(const volatile void *lock)
+EXPORT void witness_recorder_destroyed(const volatile void *lock)
 {
-    release(lock, CALLER);
+    start();
+    lock_gone((const void *)lock);
+}
+
+/* The calls that tell what is done there, and those that tell where that is. */
+EXPORT void witness_recorder_asked(const volatile void *lock, int how) { ask(lock, how, CALLER); }
+EXPORT void witness_recorder_tried(const volatile void *lock, int how) { try(lock, how, CALLER); }
+EXPORT void witness_recorder_released(const volatile void *lock) { release(lock, CALLER); }
+EXPORT void witness_recorder_asked_at(const volatile void *lock, int how, unsigned place)
+{
+    ask(lock, how, site_or(place, CALLER));
+}
+
+EXPORT void witness_recorder_tried_at(const volatile void *lock, int how, unsigned place)
+{
+    try(lock, how, site_or(place, CALLER));
 }
 
 EXPORT void witness_recorder_released_at(const volatile void *lock, unsigned place)
 {
     release(lock, site_or(place, CALLER));
-}
-
-EXPORT void witness_recorder_destroyed(const volatile void *lock)
-{
-    start();
-    lock_gone((const void *)lock);
 }

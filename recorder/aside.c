@@ -10,9 +10,7 @@
 #include "recorder.h"
 
 #include <errno.h>
-#include <sys/mman.h>
 #include <sys/syscall.h>
-#include <unistd.h>
 
 /* As many as may be needed at once: others wait for the recorder's mutex on theirs. They are made when they are. */
 enum { STACKS = 256, STACK_BYTES = 1 << 16 };
@@ -98,26 +96,19 @@ static void call_elsewhere(void (*function)(void *), void *argument)
 }
 
 /* The kernel's call: the C library's takes more stack, and keeps two of its own signals from being blocked. */
-static void set_signals(const uint64_t *wanted, uint64_t *before)
+void change_signals(int how, uint64_t wanted, uint64_t *before)
 {
-    syscall(SYS_rt_sigprocmask, SIG_SETMASK, wanted, before, sizeof *wanted);
-}
-
-static uint64_t signal_bit(int number)
-{
-    return (uint64_t)1 << (number - 1);
+    syscall(SYS_rt_sigprocmask, how, &wanted, before, sizeof wanted);
 }
 
 static void call_undisturbed(void (*function)(void *), void *argument)
 {
-    uint64_t faults = signal_bit(SIGSEGV) | signal_bit(SIGBUS) | signal_bit(SIGFPE) | signal_bit(SIGILL)
-        | signal_bit(SIGTRAP);
-    uint64_t wanted = atomic_load(&has_small_stacks) ? UINT64_MAX : ~faults, before;
-    set_signals(&wanted, &before);
+    uint64_t before;
+    change_signals(SIG_SETMASK, atomic_load(&has_small_stacks) ? UINT64_MAX : ~FAULTS, &before);
     self.keeps_signals = true;
     call_elsewhere(function, argument);
     self.keeps_signals = false;
-    set_signals(&before, NULL);
+    change_signals(SIG_SETMASK, before, NULL);
 }
 
 void aside(void (*function)(void *), void *argument)

@@ -9,62 +9,43 @@
 #include "recorder.h"
 
 #include <sys/uio.h>
-#include <unistd.h>
 
-bool mutex_read(uintptr_t address, pthread_mutex_t *mutex)
+bool lock_read(const struct lock *lock, void *to, size_t bytes)
 {
-    struct iovec here = {mutex, sizeof *mutex}, there = {(void *)address, sizeof *mutex};
-    return process_vm_readv(getpid(), &here, 1, &there, 1, 0) == (ssize_t)sizeof *mutex;
+    struct iovec here = {to, bytes}, there = {(void *)atomic_load(&lock->address), bytes};
+    return process_vm_readv(getpid(), &here, 1, &there, 1, 0) == (ssize_t)bytes;
 }
 
-/* The number of the thread that holds the mutex, as the kernel counts threads; 0 where nobody does, or it can't be read. */
-int32_t mutex_holder(uintptr_t address)
+int32_t lock_holder(const struct lock *lock)
 {
     pthread_mutex_t mutex;
-    if (!mutex_read(address, &mutex))
-        return 0;
-    return mutex.__data.__lock == 0 ? 0 : mutex.__data.__owner;
-}
-
-/* As mutex_holder, of the writer that has the lock; 0 where readers have it, too. */
-int32_t rwlock_writer(uintptr_t address)
-{
-    pthread_rwlock_t lock;
-    struct iovec here = {&lock, sizeof lock}, there = {(void *)address, sizeof lock};
-    if (process_vm_readv(getpid(), &here, 1, &there, 1, 0) != (ssize_t)sizeof lock)
-        return 0;
-    return lock.__data.__cur_writer;
+    pthread_rwlock_t rwlock;
+    if (lock->type->class == MUTEX && lock_read(lock, &mutex, sizeof mutex))
+        return mutex.__data.__lock == 0 ? 0 : mutex.__data.__owner;
+    return lock->type->class == RWLOCK && lock_read(lock, &rwlock, sizeof rwlock) ? (int32_t)rwlock.__data.__cur_writer : 0;
 }
 
 static void write_answer(struct thread *thread)
 {
     int32_t holder;
-    if (!stream_has_room() || !seat_taken(thread))
-        return;
-    put_text(WORD_ANSWER "\n");
-    stream_append(false);
+    SEATED_OR(thread, return);
+    write_line(WORD_ANSWER);
     for (uint32_t at = 0; at < LOCKS_ALIVE; at++) {
         struct lock *lock = lock_held_from(&at, &holder);
         uint32_t number = lock ? lock_number(thread, lock) : 0;
-        if (number == 0)
-            continue;
-        put_text(WORD_HOLDER);
-        put_number(number);
-        put_number((uint64_t)holder);
-        put_text("\n");
-        stream_append(false);
+        if (number != 0)
+            write_line(WORD_HOLDER " %u %u", number, (uint32_t)holder);
     }
-    seat_given_back(thread);
 }
 
 /* The thread is inside the recorder, and asks for nothing yet. */
 COLD void answer(struct thread *thread)
 {
-    if (!stream_is_asked() || !recorder_enters())
+    if (!stream_is_asked())
         return;
-    if (stream_is_asked()) {
-        write_answer(thread);
-        stream_is_answered();
-    }
-    recorder_leaves();
+    ENTERS_OR(return);
+    if (!stream_is_asked())
+        return;
+    write_answer(thread);
+    stream_is_answered();
 }

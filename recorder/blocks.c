@@ -15,7 +15,6 @@
 #include "quick.h"
 
 #include <errno.h>
-#include <stdlib.h>
 #include <string.h>
 
 /* A word: the callers that took the block, its size in units of 16 bytes, and of its address what the line doesn't say. */
@@ -168,22 +167,36 @@ static bool put_wide(uintptr_t from, size_t size)
     return false;
 }
 
-/* It isn't known of which level it is: its size may be greater than its word can say. */
-static size_t take_wide(uintptr_t from)
+/*
+ * The wide block that the address is in, which may begin in the piece before its own, or the one that BEGINS there; NULL for
+ * none. It isn't known of which level it is: its size may be greater than its word can say.
+ */
+static struct wide *find_wide(uintptr_t address, bool begins, uintptr_t *from, uint64_t *word)
 {
-    uint32_t met = atomic_load(&levels_met);
-    for (uint32_t i = 0; i < LEVELS * WIDE_TRIES * WIDE_PLACES; i++) {
-        uint32_t level = i / (WIDE_TRIES * WIDE_PLACES), try = i / WIDE_PLACES % WIDE_TRIES;
+    uint32_t met = atomic_load(&levels_met), pieces = begins ? 1 : 2;
+    for (uint32_t i = 0; i < LEVELS * pieces * WIDE_TRIES * WIDE_PLACES; i++) {
+        uint32_t level = i / (pieces * WIDE_TRIES * WIDE_PLACES), back = i / (WIDE_TRIES * WIDE_PLACES) % pieces;
         if (!(met >> level & 1))
             continue;
-        struct wide *wide = &wide_bucket(level, from >> wide_shift(level), try)->places[i % WIDE_PLACES];
-        if (atomic_load_explicit(&wide->from, memory_order_relaxed) != from)
-            continue;
-        size_t size = atomic_load_explicit(&wide->size, memory_order_relaxed);
-        atomic_store_explicit(&wide->from, 0, memory_order_release);
-        return size;
+        uintptr_t piece = (address >> wide_shift(level)) - back;
+        struct wide *wide = &wide_bucket(level, piece, i / WIDE_PLACES % WIDE_TRIES)->places[i % WIDE_PLACES];
+        *from = atomic_load_explicit(&wide->from, memory_order_acquire);
+        size_t size = atomic_load_explicit(&wide->size, memory_order_acquire);
+        if (begins ? *from == address
+                   : *from > 1 && address >= *from && address - *from < size && atomic_load(&wide->from) == *from
+                    && word_at(*from, word))
+            return wide;
     }
-    return 0;
+    return NULL;
+}
+
+static size_t take_wide(uintptr_t from)
+{
+    struct wide *wide = find_wide(from, true, &from, NULL);
+    size_t size = wide ? atomic_load_explicit(&wide->size, memory_order_relaxed) : 0;
+    if (wide)
+        atomic_store_explicit(&wide->from, 0, memory_order_release);
+    return size;
 }
 
 /*
@@ -300,10 +313,10 @@ static void look_for_origin(void *argument)
 {
     struct taking *taking = argument;
     uint32_t places[DEPTH_MOST] = {0};
-    if (!takers_learnt(taking->caller, depth, places) || !recorder_enters())
+    if (!takers_learnt(taking->caller, depth, places))
         return;
+    ENTERS_OR(return);
     taking->origin = origin_met(places);
-    recorder_leaves();
 }
 
 /*
@@ -314,10 +327,8 @@ static COLD uint32_t new_origin(uintptr_t pc, uintptr_t stack, uintptr_t base)
 {
     struct taking taking = {{pc, stack, base}, 0};
     int before = errno;
-    if (!goes_far_inside(HERE))
-        return 0;
+    GOES_INSIDE_OR(HERE, return 0);
     aside(look_for_origin, &taking);
-    goes_outside(&self);
     errno = before;
     return taking.origin;
 }
@@ -392,25 +403,6 @@ static uint64_t find_near(uintptr_t address, uintptr_t *from)
     return 0;
 }
 
-static uint64_t find_wide(uintptr_t address, uintptr_t *from)
-{
-    uint32_t met = atomic_load(&levels_met);
-    for (uint32_t i = 0; i < LEVELS * 2 * WIDE_TRIES * WIDE_PLACES; i++) {
-        uint32_t level = i / (2 * WIDE_TRIES * WIDE_PLACES), back = i / (WIDE_TRIES * WIDE_PLACES) % 2;
-        if (!(met >> level & 1))
-            continue;
-        uintptr_t piece = (address >> wide_shift(level)) - back;
-        struct wide *wide = &wide_bucket(level, piece, i / WIDE_PLACES % WIDE_TRIES)->places[i % WIDE_PLACES];
-        *from = atomic_load_explicit(&wide->from, memory_order_acquire);
-        size_t size = atomic_load_explicit(&wide->size, memory_order_acquire);
-        uint64_t word;
-        if (*from > 1 && address >= *from && address - *from < size && atomic_load(&wide->from) == *from
-            && word_at(*from, &word))
-            return word;
-    }
-    return 0;
-}
-
 /* Whether the lock there may be in a block that isn't known. */
 static bool may_be_lost(void)
 {
@@ -423,7 +415,7 @@ bool block_around(uintptr_t address, uint64_t *offset, uint32_t takers[DEPTH_MOS
     uint64_t word;
     if (!are_kept() || address >> ADDRESS_BITS != 0)
         return false;
-    if (!(word = find_near(address, &from)) && !(word = find_wide(address, &from))) {
+    if (!(word = find_near(address, &from)) && !find_wide(address, false, &from, &word)) {
         if (may_be_lost())
             count_missed(MISSED_BLOCKS);
         return false;

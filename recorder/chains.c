@@ -6,11 +6,10 @@
 
 #include <errno.h>
 #include <string.h>
-#include <sys/mman.h>
 
 /* Room for a chain that is longer than most. */
 struct block {
-    struct block *next; /* among those that no thread has */
+    struct block *next; /* among those that no thread has; NULL of a new one */
     struct held held[HELD_MOST];
 };
 
@@ -36,16 +35,13 @@ static inline struct held *held_at(struct thread *thread, const void *address)
 /* The thread has the block until its chain is empty. */
 COLD static bool room_made(struct thread *thread)
 {
-    if (thread->room == HELD_MOST || !recorder_enters())
+    if (thread->room == HELD_MOST)
         return false;
-    struct block *block = free_blocks;
-    if (block)
-        free_blocks = block->next;
-    else
-        block = table(sizeof *block);
-    recorder_leaves();
+    ENTERS_OR(return false);
+    struct block *block = free_blocks ? free_blocks : table(sizeof *block);
     if (!block)
         return false;
+    free_blocks = block->next;
     memcpy(block->held, thread->held, thread->count * sizeof *thread->held);
     thread->held = block->held;
     thread->room = HELD_MOST;
@@ -55,11 +51,9 @@ COLD static bool room_made(struct thread *thread)
 COLD static void give_room_back(struct thread *thread)
 {
     struct block *block = (struct block *)((char *)thread->held - offsetof(struct block, held));
-    if (!recorder_enters())
-        return;
+    ENTERS_OR(return);
     block->next = free_blocks;
     free_blocks = block;
-    recorder_leaves();
     thread->held = thread->few;
     thread->room = HELD_FEW;
 }
@@ -95,9 +89,9 @@ COLD static void drop_lost(struct thread *thread)
     }
 }
 
-/* False where this call isn't recorded. Else the thread is inside the recorder. */
-static inline bool opens(struct thread *thread, uintptr_t stack)
+bool chain_opens(uintptr_t stack)
 {
+    struct thread *thread = &self;
     if (thread->state != OPEN && !thread_opens(thread, stack))
         return false;
     thread->state = stack;
@@ -105,11 +99,6 @@ static inline bool opens(struct thread *thread, uintptr_t stack)
     if (UNLIKELY(thread->lost_seen != atomic_load_explicit(&lost_total, memory_order_relaxed)))
         drop_lost(thread);
     return true;
-}
-
-bool chain_opens(uintptr_t stack)
-{
-    return opens(&self, stack);
 }
 
 /* A lock that is held may be asked for again: a recursive mutex, and a rwlock that is held shared, shared. */
@@ -126,11 +115,6 @@ static void write_new(void *argument)
     if (request->repeats || !chain_is_told(request->thread, request->lock->type))
         request->stack = stack_of(request->caller);
     write_request(request);
-}
-
-static void look_for_circle(void *request)
-{
-    judge_waits(request);
 }
 
 /* Whether a request that may block, by a thread that holds something, has to be written; and writes it then. */
@@ -152,7 +136,7 @@ static void consider(struct request *request)
     if (request->thread->count != 0)
         pairs_noted(request);
     if (waits)
-        aside(look_for_circle, request);
+        aside(judge_waits, request);
 }
 
 /* A request that begins; its place where that is known and no stack is wanted there, else 0. */
@@ -170,18 +154,16 @@ struct beginning {
 static void fill(struct request *request, const struct beginning *it, struct lock *lock)
 {
     struct thread *thread = &self;
-    request->thread = thread;
-    request->lock = lock;
-    request->again = held_of(thread, lock);
-    request->caller = it->caller;
-    request->place = it->place ? it->place : place_of(it->caller);
-    request->stack = it->place ? 0 : stack_of_held(request->place, it->caller);
-    request->mode = it->mode;
-    request->tried = it->asking == TRIES;
-    request->timed = it->asking == ASKS_FOR_A_TIME;
-    request->ends_wait = request->repeats = false;
-    request->patient = request->again_refused = request->waited_for_itself = false;
-    request->pending = false;
+    uint32_t place = it->place ? it->place : place_of(it->caller);
+    *request = (struct request){.thread = thread,
+        .lock = lock,
+        .again = held_of(thread, lock),
+        .caller = it->caller,
+        .place = place,
+        .stack = it->place ? 0 : stack_of_held(place, it->caller),
+        .mode = it->mode,
+        .tried = it->asking == TRIES,
+        .timed = it->asking == ASKS_FOR_A_TIME};
     if (UNLIKELY(request->timed || thread->repeated.lingers))
         repeat_counts(request);
 }
@@ -197,16 +179,15 @@ static inline void begin_inside(struct beginning *it, struct lock *lock)
 static void begin(void *argument)
 {
     struct beginning *it = argument;
-    struct thread *thread = &self;
-    if (UNLIKELY(!opens(thread, it->caller.stack)))
+    if (UNLIKELY(!chain_opens(it->caller.stack)))
         return;
     if (UNLIKELY(takes_long_way()))
-        answer(thread);
+        answer(&self);
     struct lock *lock = lock_at(it->address);
     if (LIKELY(lock) || (lock = lock_met(it->address, it->class, it->caller)))
         begin_inside(it, lock);
     else
-        goes_outside(thread);
+        goes_outside(&self);
 }
 
 /* Nothing stands between the thread and its chain. */
@@ -252,6 +233,8 @@ bool request_begins(struct request *request, const void *address, enum class cla
     /* All of the request is written: the process may end here. */
     if (it.begun)
         judge_tells(caller);
+    if (UNLIKELY(steers) && it.begun && asking != TRIES && steer_asks(request))
+        request->patient = true;
     return it.begun;
 }
 
@@ -261,10 +244,8 @@ static void waits_aside(void *argument)
     struct request *request = argument;
     request->stack = stack_of(request->caller);
     request->waited_for_itself = request->again_refused;
-    if (request->again_refused)
-        write_waits_for_itself(request);
-    else if (request->again)
-        write_waits_behind(request);
+    if (request->again)
+        write_waits_again(request);
     else if (stream_has_file() || judge_watches_waits())
         write_request(request);
     judge_waits(request);
@@ -308,9 +289,11 @@ COLD static void take_as_tried(struct request *request)
     request->tried = true;
 }
 
-static __attribute__((noinline)) void ends(struct request *request, bool got)
+static __attribute__((noinline)) void ends(void *argument)
 {
+    struct request *request = argument;
     struct thread *thread = request->thread;
+    bool got = request->got;
     if (UNLIKELY(request->pending))
         take_as_tried(request);
     if (UNLIKELY(request->again != NULL) && got && request->again_refused) {
@@ -338,23 +321,14 @@ static __attribute__((noinline)) void ends(struct request *request, bool got)
     goes_outside(thread);
 }
 
-static void got_aside(void *request)
-{
-    ends(request, true);
-}
-
-static void refused_aside(void *request)
-{
-    ends(request, false);
-}
-
 /* The call has returned, with the lock or without. */
 void request_ends(struct request *request, bool got)
 {
+    request->got = got;
     if (!request->pending && !request->again_refused && self.count != self.room)
-        ends(request, got);
+        ends(request);
     else
-        aside(got ? got_aside : refused_aside, request);
+        aside(ends, request);
 }
 
 /* What was acquired after it was acquired under it. */
@@ -376,19 +350,18 @@ static void released(struct thread *thread, struct held *held)
     take_out(thread, held);
 }
 
-static COLD void released_by_another(struct thread *thread, struct lock *lock, struct caller caller)
-{
-    write_released_by_another(thread, lock, place_of(caller));
-    if (lock && lock->loses)
-        lock_given_up(lock);
-}
+struct release {
+    const void *address;
+    struct caller caller;
+};
 
-static __attribute__((noinline)) void release(const void *address, struct caller caller)
+static __attribute__((noinline)) void release(void *argument)
 {
+    const struct release *it = argument;
     struct thread *thread = &self;
-    if (UNLIKELY(!opens(thread, caller.stack)))
+    if (UNLIKELY(!chain_opens(it->caller.stack)))
         return;
-    struct held *held = held_at(thread, address);
+    struct held *held = held_at(thread, it->address);
     if (UNLIKELY(thread->repeated.lingers))
         repeat_ends(thread);
     if (LIKELY(held != NULL)) {
@@ -396,22 +369,14 @@ static __attribute__((noinline)) void release(const void *address, struct caller
     } else if (thread->unseen) {
         thread->unseen--;
     } else {
-        struct lock *lock = lock_at(address);
-        if (!release_was_told(lock))
-            released_by_another(thread, lock, caller);
+        struct lock *lock = lock_at(it->address);
+        bool was_told = release_was_told(lock);
+        if (!was_told)
+            write_released_by_another(thread, lock, place_of(it->caller));
+        if (!was_told && lock && lock->loses)
+            lock_given_up(lock);
     }
     goes_outside(thread);
-}
-
-struct release {
-    const void *address;
-    struct caller caller;
-};
-
-static void release_aside(void *argument)
-{
-    const struct release *it = argument;
-    release(it->address, it->caller);
 }
 
 /* Whether it releases what it holds, and the stream has nothing of that: so that it takes little of the program's stack. */
@@ -424,53 +389,18 @@ static bool releases_simply(const void *address)
 /* The thread is about to release the lock, whichever call it uses. */
 void release_begins(const void *address, struct caller caller)
 {
+    struct release it = {address, caller};
     if (is_asleep())
         return;
-    if (releases_simply(address)) {
-        release(address, caller);
-        return;
-    }
-    struct release it = {address, caller};
-    aside(release_aside, &it);
+    if (releases_simply(address))
+        release(&it);
+    else
+        aside(release, &it);
 }
 
 static void give_up(void *request)
 {
     write_given_up(request);
-}
-
-static bool wait_opens(struct request *request, const void *address, bool asks_again,
-    struct caller caller)
-{
-    struct thread *thread = &self;
-    if (UNLIKELY(!opens(thread, caller.stack)))
-        return false;
-    struct held *held = held_at(thread, address);
-    if (!held) {
-        goes_outside(thread);
-        return false;
-    }
-    if (thread->repeated.lingers)
-        repeat_ends(thread);
-    memset(request, 0, sizeof *request);
-    request->thread = thread;
-    request->lock = held->lock;
-    request->caller = caller;
-    request->place = place_of(caller);
-    request->stack = stack_of_held(request->place, caller);
-    request->mode = EXCLUSIVE;
-    request->ends_wait = true;
-    released(thread, held);
-    /* That it asks for the mutex again is written now, since the wait may never end. */
-    request->again = held_of(thread, request->lock);
-    if (asks_again && !request->again && thread->count != 0) {
-        consider(request);
-        if (request->pending)
-            aside(give_up, request);
-        request->patient = false;
-        waiter_begins(request, address);
-    }
-    return true;
 }
 
 struct waiting {
@@ -483,7 +413,36 @@ struct waiting {
 static void open_wait(void *argument)
 {
     struct waiting *it = argument;
-    it->begun = wait_opens(it->request, it->address, it->asks_again, it->caller);
+    struct request *request = it->request;
+    struct thread *thread = &self;
+    if (UNLIKELY(!chain_opens(it->caller.stack)))
+        return;
+    struct held *held = held_at(thread, it->address);
+    if (!held) {
+        goes_outside(thread);
+        return;
+    }
+    if (thread->repeated.lingers)
+        repeat_ends(thread);
+    uint32_t place = place_of(it->caller);
+    *request = (struct request){.thread = thread,
+        .lock = held->lock,
+        .caller = it->caller,
+        .place = place,
+        .stack = stack_of_held(place, it->caller),
+        .mode = EXCLUSIVE,
+        .ends_wait = true};
+    released(thread, held);
+    /* That it asks for the mutex again is written now, since the wait may never end. */
+    request->again = held_of(thread, request->lock);
+    if (it->asks_again && !request->again && thread->count != 0) {
+        consider(request);
+        if (request->pending)
+            aside(give_up, request);
+        request->patient = false;
+        waiter_begins(request, it->address);
+    }
+    it->begun = true;
 }
 
 /*
@@ -531,10 +490,8 @@ void chains_forked(void)
     thread->seat = thread->last_seat = thread->written = thread->asked = 0;
     forget_requests(thread);
     madvise(pairs, sizeof *pairs, MADV_DONTNEED);
-    for (uint32_t i = 0; i < thread->count; i++) {
-        struct held *held = &thread->held[i];
-        held->written = 0;
-        held->has_under = 0;
+    for (struct held *held = thread->held; held < thread->held + thread->count; held++) {
+        held->written = held->has_under = 0;
         held->before_fork = 1;
     }
 }

@@ -3,8 +3,6 @@
 #include <elf.h>
 #include <fcntl.h>
 #include <string.h>
-#include <sys/mman.h>
-#include <unistd.h>
 
 enum { TEXT_BYTES = 1 << 22, NAME_MOST = 200 };
 
@@ -100,13 +98,17 @@ static bool found_in_file(struct elf *elf)
     return elf->strings && elf->table_count > 0 && elf->table_count < UINT32_MAX;
 }
 
-/* What the entry of that tag points to, NULL where there is none. In most objects the linker has put addresses there. */
-static const void *pointed(const struct elf *elf, ElfW(Sxword) tag)
+uintptr_t dynamic_word(const ElfW(Dyn) *entry, ElfW(Sxword) tag)
 {
-    for (const ElfW(Dyn) *entry = elf->dynamic; entry->d_tag != DT_NULL; entry++)
-        if (entry->d_tag == tag)
-            return (const void *)(entry->d_un.d_ptr < elf->bias ? entry->d_un.d_ptr + elf->bias : entry->d_un.d_ptr);
-    return NULL;
+    while (entry->d_tag != tag && entry->d_tag != DT_NULL)
+        entry++;
+    return entry->d_tag == tag ? entry->d_un.d_val : 0;
+}
+
+const void *dynamic_pointer(const ElfW(Dyn) *entries, ElfW(Sxword) tag, uintptr_t bias)
+{
+    uintptr_t address = dynamic_word(entries, tag);
+    return (const void *)(address && address < bias ? address + bias : address);
 }
 
 /* How many symbols the table has that this one is for: the last one of a bucket ends with a word that is odd. */
@@ -127,15 +129,15 @@ static uint32_t count_by_hash(const uint32_t *hash)
 /* Finds the table that the linker goes by. False where there is none. */
 static bool found_in_memory(struct elf *elf)
 {
-    if (!elf->dynamic)
+    const ElfW(Dyn) *entries = elf->dynamic;
+    if (!entries)
         return false;
-    const uint32_t *hash = pointed(elf, DT_GNU_HASH), *old = pointed(elf, DT_HASH);
-    elf->table = pointed(elf, DT_SYMTAB);
-    elf->strings = pointed(elf, DT_STRTAB);
+    const uint32_t *hash = dynamic_pointer(entries, DT_GNU_HASH, elf->bias);
+    const uint32_t *old = dynamic_pointer(entries, DT_HASH, elf->bias);
+    elf->table = dynamic_pointer(entries, DT_SYMTAB, elf->bias);
+    elf->strings = dynamic_pointer(entries, DT_STRTAB, elf->bias);
+    elf->strings_size = dynamic_word(entries, DT_STRSZ);
     elf->table_count = hash ? count_by_hash(hash) : old ? old[1] : 0;
-    for (const ElfW(Dyn) *entry = elf->dynamic; entry->d_tag != DT_NULL; entry++)
-        if (entry->d_tag == DT_STRSZ)
-            elf->strings_size = entry->d_un.d_val;
     return elf->table && elf->strings && elf->table_count > 0;
 }
 

@@ -56,6 +56,13 @@ bool file_marked(const char *path, struct file_mark *mark);
  */
 void elf_opens(struct elf *elf, const char *path, const ElfW(Phdr) *segments, uint32_t count);
 
+/*
+ * The word of that tag among the dynamic linker's, 0 where there is none; and what it points to. Most objects have addresses
+ * there, some what is to be added to where they begin.
+ */
+uintptr_t dynamic_word(const ElfW(Dyn) *entries, ElfW(Sxword) tag);
+const void *dynamic_pointer(const ElfW(Dyn) *entries, ElfW(Sxword) tag, uintptr_t bias);
+
 /* The symbol that the address is in, NULL where there is none; of several, the first in the object's table. */
 const struct symbol *elf_symbol(struct elf *elf, uint64_t address, int kind);
 

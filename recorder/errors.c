@@ -6,7 +6,6 @@
 
 #include <limits.h>
 #include <sys/syscall.h>
-#include <unistd.h>
 
 /* Errors that were written, by their kind and place, so that none is written twice. What finds no room isn't written. */
 enum { ERRORS_MOST = 1024 };
@@ -23,23 +22,20 @@ enum { KEYS_WITHOUT_MEMORY = 32 };
 static bool is_new(enum lock_error error, uint32_t place)
 {
     uint64_t wanted = (uint64_t)life << 40 | (uint64_t)place << 8 | (uint64_t)error | 0x80;
-    for (uint32_t tries = 0, slot = (uint32_t)(wanted * 0x9e3779b97f4a7c15u >> 54); tries < ERRORS_MOST; tries++) {
-        if (known[slot] == wanted)
-            return false;
-        if (known[slot] == 0) {
-            known[slot] = wanted;
-            return true;
-        }
-        slot = (slot + 1) % ERRORS_MOST;
-    }
-    return false;
+    uint32_t slot = 0;
+    while (slot < ERRORS_MOST && known[slot] != 0 && known[slot] != wanted)
+        slot++;
+    bool is = slot < ERRORS_MOST && known[slot] == 0;
+    if (is)
+        known[slot] = wanted;
+    return is;
 }
 
 /* A robust mutex is meant for it that its holder ends. Its memory may be gone. */
 static bool is_robust(const struct lock *lock)
 {
     pthread_mutex_t mutex;
-    return lock->type->class == MUTEX && mutex_read(atomic_load(&lock->address), &mutex) && (mutex.__data.__kind & 16);
+    return lock->type->class == MUTEX && lock_read(lock, &mutex, sizeof mutex) && (mutex.__data.__kind & 16);
 }
 
 /* The thread holds the lock still. */
@@ -56,10 +52,17 @@ static struct held *held_by(struct thread *thread, const struct lock *lock)
     return NULL;
 }
 
+/* `error WORD SEAT LOCK PLACE`: the words are those of errors, in their order. */
 static COLD void tell(enum lock_error error, struct lock *lock, uint32_t place)
 {
-    if (is_new(error, place))
-        write_error(&self, error, lock, place);
+#define WORD_OF(error, word) word,
+    static const char *const words[] = {EACH_ERROR(WORD_OF)};
+    if (!is_new(error, place))
+        return;
+    SEATED_OR(&self, return);
+    uint32_t number = lock_number(&self, lock), site = number ? place_number(place) : 0;
+    if (number != 0)
+        write_line(WORD_ERROR " %s %u %u %u", words[error], self.seat, number, site);
 }
 
 struct met {
@@ -72,21 +75,17 @@ static void tell_met(void *argument)
 {
     const struct met *it = argument;
     uint32_t place = place_of(it->caller);
-    if (!recorder_enters())
-        return;
+    ENTERS_OR(return);
     struct lock *lock = lock_at(it->address);
     if (lock)
         tell(it->error, lock, place);
-    recorder_leaves();
 }
 
 void error_at(enum lock_error error, const void *address, struct caller caller)
 {
     struct met it = {error, address, caller};
-    if (!goes_far_inside(caller.stack))
-        return;
+    GOES_INSIDE_OR(caller.stack, return);
     aside(tell_met, &it);
-    goes_outside(&self);
 }
 
 /* A handler of fork may make the locks anew that it took for the child, as those of allocators do. */
@@ -112,12 +111,10 @@ void error_of_freed(struct lock *lock)
 static void tell_reread(void *argument)
 {
     const struct request *request = argument;
-    if (!recorder_enters())
-        return;
+    ENTERS_OR(return);
     count_missed(MISSED_REREADS);
     if (request->lock->type->class != TOLD_RWLOCK)
         tell(ERROR_REREAD, request->lock, request->place);
-    recorder_leaves();
 }
 
 COLD void error_of_reread(struct request *request)
@@ -131,19 +128,17 @@ COLD void error_of_reread(struct request *request)
 void error_of_wait(const pthread_mutex_t *mutex, struct caller caller)
 {
     if (mutex->__data.__lock == 0 || ((mutex->__data.__kind & 3) != PTHREAD_MUTEX_ADAPTIVE_NP && mutex->__data.__owner != 0
-            && mutex->__data.__owner != (int)syscall(SYS_gettid)))
+            && mutex->__data.__owner != gettid()))
         error_at(ERROR_WAITED, mutex, caller);
 }
 
 static void tell_held(void *unused)
 {
     (void)unused;
-    if (!recorder_enters())
-        return;
+    ENTERS_OR(return);
     for (uint32_t i = 0; i < self.count; i++)
         if (stands_for_lock(&self.held[i]) && !is_robust(self.held[i].lock))
             tell(ERROR_ENDED, self.held[i].lock, self.held[i].place);
-    recorder_leaves();
 }
 
 /*

@@ -36,7 +36,7 @@ bool judge_watches_waits(void);
 /* Whether the request, which is written, closes a circle of threads that wait for one another. Under the mutex. */
 bool judge_sees_circle(const struct request *request);
 /* Outside the mutex: the request has waited for a second, and is written. What it brings is told by judge_tells. */
-void judge_waits(const struct request *request);
+void judge_waits(void *request); /* a `struct request`: it is called aside */
 
 /* Outside the mutex: what this thread's lines were answered, before the real call of the request; and any other news. */
 void judge_tells(struct caller caller);
@@ -83,7 +83,7 @@ static inline void judge_released(const struct thread *thread, uint32_t lock, ui
 static inline void judge_missed(enum missed what) { (void)what; }
 static inline bool judge_watches_waits(void) { return false; }
 static inline bool judge_sees_circle(const struct request *request) { return (void)request, false; }
-static inline void judge_waits(const struct request *request) { (void)request; }
+static inline void judge_waits(void *request) { (void)request; }
 static inline void judge_tells(struct caller caller) { (void)caller; }
 static inline void judge_looks(void) {}
 

@@ -8,9 +8,7 @@
  */
 #include "quick.h"
 
-#include <dlfcn.h>
 #include <string.h>
-#include <unistd.h>
 
 /* Nothing is opened where no file of that name is, nor where an object of it is there already. */
 static bool is_opened_past(const char *name)

@@ -20,14 +20,13 @@ enum { LEVELS = 3, REGION_SHIFT = 12, LEVEL_SHIFT = 4, REGIONS = 1 << 15 };
 enum { PIECE_LOCKS = LOCKS, PIECES = LOCKS_ALIVE / PIECE_LOCKS };
 
 _Atomic(struct lock *) *lock_buckets;
-static struct lock *lock_pieces[PIECES];
+static void *lock_pieces[PIECES], *name_pieces[PIECES];
 static struct lock *free_locks;
 static uint32_t locks_taken;
 static _Atomic uint32_t locks_in_memory; /* those that free has to look for */
 
 static _Atomic uint32_t in_regions[LEVELS][REGIONS]; /* locks in memory, in all regions of that slot */
 
-static struct name *name_pieces[PIECES];
 static uint32_t names_taken;
 
 static struct type *types;
@@ -38,25 +37,23 @@ static struct {
     uintptr_t address, from;
 } anchors[ANCHORS];
 
-/* The record of that number, NULL where there is no room for it. */
+/* What stands there for the number, of that size; NULL where there is no room for it. */
+static void *numbered(void *pieces[PIECES], uint32_t number, size_t size)
+{
+    void **piece = number < LOCKS_ALIVE ? &pieces[number / PIECE_LOCKS] : NULL;
+    if (piece && !*piece)
+        *piece = table(PIECE_LOCKS * size);
+    return piece && *piece ? (char *)*piece + number % PIECE_LOCKS * size : NULL;
+}
+
 static struct lock *lock_numbered(uint32_t number)
 {
-    if (number == LOCKS_ALIVE)
-        return NULL;
-    struct lock **piece = &lock_pieces[number / PIECE_LOCKS];
-    if (!*piece)
-        *piece = table(PIECE_LOCKS * sizeof **piece);
-    return *piece ? *piece + number % PIECE_LOCKS : NULL;
+    return numbered(lock_pieces, number, sizeof(struct lock));
 }
 
 static struct name *name_numbered(uint32_t number)
 {
-    if (number == LOCKS_ALIVE)
-        return NULL;
-    struct name **piece = &name_pieces[number / PIECE_LOCKS];
-    if (!*piece)
-        *piece = table(PIECE_LOCKS * sizeof **piece);
-    return *piece ? *piece + number % PIECE_LOCKS : NULL;
+    return numbered(name_pieces, number, sizeof(struct name));
 }
 
 bool locks_made(void)
@@ -141,12 +138,11 @@ static bool are_kin(const struct type *type, const struct type *wanted)
 /* Its kin are as many as may be told by their offsets: from here on none is, nor was. */
 static COLD void crowd(struct type *kin, const struct type *wanted)
 {
-    for (; kin; kin = kin->next) {
-        if (!are_kin(kin, wanted) || kin->crowded)
-            continue;
-        kin->crowded = true;
-        write_crowded(kin);
-    }
+    for (; kin; kin = kin->next)
+        if (are_kin(kin, wanted) && !kin->crowded) {
+            kin->crowded = true;
+            write_crowded(kin);
+        }
 }
 
 /* Kin is in one bucket. */
@@ -162,13 +158,8 @@ static struct type *type_of(const struct type *wanted)
 {
     struct type **bucket = type_bucket(wanted), *type = *bucket;
     uint32_t kin = 0;
-    for (; type; type = type->next) {
-        if (!are_kin(type, wanted))
-            continue;
-        if (type->part == wanted->part)
-            break;
-        kin++;
-    }
+    for (; type && !(are_kin(type, wanted) && type->part == wanted->part); type = type->next)
+        kin += are_kin(type, wanted);
     if (type && !type->crowded)
         return type;
     if (type || kin == OFFSETS_MOST) {
@@ -181,6 +172,7 @@ static struct type *type_of(const struct type *wanted)
     type = &types[++types_met];
     memcpy(type, wanted, sizeof *type);
     type->number = types_met;
+    type->free_end = &type->free;
     type->next = *bucket;
     *bucket = type;
     return type;
@@ -193,39 +185,30 @@ static struct type *type_of(const struct type *wanted)
 static struct name *name_for(struct type *type, uintptr_t address, const struct lock *lock)
 {
     uintptr_t variable = type->anchor ? address : 0;
-    struct name *before = NULL, *name = type->first_free;
-    while (name && (name->variable != variable || name->recursive != lock->recursive || name->shared != lock->shared)) {
-        before = name;
-        name = name->next;
-    }
-    if (!name) {
-        name = name_numbered(names_taken);
-        if (!name)
-            return NULL;
-        names_taken++;
-        *name = (struct name){.variable = variable,
-            .number = ++type->names_made,
-            .recursive = lock->recursive,
-            .shared = lock->shared};
+    struct name **link = &type->free, *name;
+    while ((name = *link)
+        && (name->variable != variable || name->recursive != lock->recursive || name->shared != lock->shared))
+        link = &name->next;
+    if (name) {
+        *link = name->next;
+        if (type->free_end == &name->next)
+            type->free_end = link;
         return name;
     }
-    if (before)
-        before->next = name->next;
-    else
-        type->first_free = name->next;
-    if (type->last_free == name)
-        type->last_free = before;
+    name = name_numbered(names_taken);
+    if (!name)
+        return NULL;
+    names_taken++;
+    *name = (struct name){
+        .variable = variable, .number = ++type->names_made, .recursive = lock->recursive, .shared = lock->shared};
     return name;
 }
 
 static void give_name_back(struct type *type, struct name *name)
 {
     name->next = NULL;
-    if (type->first_free)
-        type->last_free->next = name;
-    else
-        type->first_free = name;
-    type->last_free = name;
+    *type->free_end = name;
+    type->free_end = &name->next;
 }
 
 /* Who holds the lock by its chain finds out at its next call. */
@@ -365,36 +348,8 @@ static void look_for_block(struct type *wanted)
     memcpy(wanted->places, takers, sizeof wanted->places);
 }
 
-/* A lock at its first use: its record, or NULL where it can't be recorded. */
-COLD struct lock *lock_met(const void *address, enum class class, struct caller caller)
+static uintptr_t anchor_of(uint32_t object, uintptr_t address)
 {
-    struct type wanted = {.class = class, .met = true, .address = (uintptr_t)address};
-    uint32_t places[DEPTH_MOST] = {0};
-    /* This comes before the search for the lock's object, since it looks for objects that are new. */
-    places_of(caller, places);
-    int kind = kind_at(address, class);
-    if (!recorder_enters())
-        return NULL;
-    struct lock *lock = lock_at(address);
-    if (!lock) {
-        wanted.object = object_of((uintptr_t)address, false);
-        if (wanted.object)
-            wanted.anchor = anchor_of_met(wanted.object, (uintptr_t)address);
-        else
-            memcpy(wanted.places, places, sizeof places);
-        if (!wanted.object)
-            look_for_block(&wanted);
-        lock = add(address, &wanted, kind);
-    }
-    recorder_leaves();
-    return lock;
-}
-
-static uintptr_t anchor_of(uintptr_t address)
-{
-    uint32_t object = object_of(address, false);
-    if (!object)
-        return 0;
     uint32_t slot = (uint32_t)(address >> 3) % ANCHORS;
     if (anchors[slot].address != address) {
         uint64_t size;
@@ -405,71 +360,73 @@ static uintptr_t anchor_of(uintptr_t address)
     return anchors[slot].from;
 }
 
-/* An init call has made a lock there. */
-void lock_made(const void *address, enum class class, struct caller caller)
-{
-    lock_made_as(address, class, caller, NULL);
-}
-
-struct making {
+/* A lock comes to be known: by its first use, or by an init call, which may give its type a name. */
+struct coming {
     const void *address;
     enum class class;
     struct caller caller;
+    bool met;
     const char *type;
+    struct lock *lock; /* its record, or NULL where it can't be recorded */
 };
 
-static void make(void *argument)
+static void come(void *argument)
 {
-    const struct making *it = argument;
-    struct type wanted = {.class = it->class, .address = (uintptr_t)it->address};
+    struct coming *it = argument;
+    struct type wanted = {.class = it->class, .met = it->met, .address = (uintptr_t)it->address};
+    /* This comes before the search for the lock's object, since it looks for objects that are new. */
     places_of(it->caller, wanted.places);
     int kind = kind_at(it->address, it->class);
-    if (!recorder_enters())
+    ENTERS_OR(return);
+    it->lock = lock_at(it->address);
+    if (it->lock && it->met)
         return;
-    struct lock *before = lock_at(it->address);
-    if (before)
-        forget(before, false);
+    if (it->lock)
+        forget(it->lock, false);
     wanted.label = type_label(it->type);
-    if (!wanted.label) {
+    if (!wanted.label)
         wanted.object = object_of(wanted.address, false);
-        wanted.anchor = anchor_of(wanted.address);
-        if (!wanted.object)
-            look_for_block(&wanted);
-    }
-    add(it->address, &wanted, kind);
-    recorder_leaves();
+    if (wanted.object)
+        wanted.anchor = it->met ? anchor_of_met(wanted.object, wanted.address) : anchor_of(wanted.object, wanted.address);
+    else if (!wanted.label)
+        look_for_block(&wanted);
+    if (wanted.object && it->met)
+        memset(wanted.places, 0, sizeof wanted.places);
+    it->lock = add(it->address, &wanted, kind);
 }
 
-/* As lock_made, of a type of that name; NULL where it is to be told by variable and callers. */
+COLD struct lock *lock_met(const void *address, enum class class, struct caller caller)
+{
+    struct coming it = {address, class, caller, true, NULL, NULL};
+    come(&it);
+    return it.lock;
+}
+
+/* An init call has made a lock there, of a type of that name; NULL where it is to be told by variable and callers. */
 void lock_made_as(const void *address, enum class class, struct caller caller, const char *type)
 {
-    struct making it = {address, class, caller, type};
-    if (!goes_far_inside(caller.stack))
-        return;
-    aside(make, &it);
-    self.state = OPEN;
+    struct coming it = {address, class, caller, false, type, NULL};
+    GOES_INSIDE_OR(caller.stack, return);
+    aside(come, &it);
 }
 
 /* The lock there was destroyed. */
 void lock_gone(const void *address)
 {
-    if (!goes_far_inside(HERE))
+    GOES_INSIDE_OR(HERE, return);
+    if (!lock_at(address))
         return;
-    if (lock_at(address) && recorder_enters()) {
-        struct lock *lock = lock_at(address);
-        if (lock)
-            forget(lock, is_free(lock));
-        recorder_leaves();
-    }
-    self.state = OPEN;
+    ENTERS_OR(return);
+    struct lock *lock = lock_at(address);
+    if (lock)
+        forget(lock, is_free(lock));
 }
 
 struct lock *lock_held_from(uint32_t *at, int32_t *holder)
 {
     for (; *at < locks_taken; (*at)++) {
         struct lock *lock = lock_numbered(*at);
-        uintptr_t address = atomic_load(&lock->address);
-        if (address && lock->type->class == MUTEX && (*holder = mutex_holder(address)) != 0)
+        if (atomic_load(&lock->address) && lock->type->class == MUTEX && (*holder = lock_holder(lock)) != 0)
             return lock;
     }
     *at = LOCKS_ALIVE;
@@ -500,13 +457,11 @@ static void free_locks_in(void *argument)
     const struct block *block = argument;
     uintptr_t at = block->from;
     struct lock *lock;
-    if (!recorder_enters())
-        return;
+    ENTERS_OR(return);
     while ((lock = lock_in(&at, block->end)) != NULL) {
         error_of_freed(lock);
         forget(lock, is_free(lock));
     }
-    recorder_leaves();
 }
 
 /* The block is about to be freed, and the locks in it with it. */
@@ -518,11 +473,8 @@ void locks_freed(const void *block)
     if (at > atomic_load_explicit(&highest, memory_order_relaxed)
         || end <= atomic_load_explicit(&lowest, memory_order_relaxed) || LIKELY(!lock_in(&at, end)))
         return;
-    if (!goes_far_inside(HERE))
-        return;
-    struct block freed = {at, end};
-    aside(free_locks_in, &freed);
-    self.state = OPEN;
+    GOES_INSIDE_OR(HERE, return);
+    aside(free_locks_in, &(struct block){at, end});
 }
 
 bool type_label_was_met(const struct type *type)
@@ -541,21 +493,19 @@ uint32_t lock_youngest(void)
 /* What was there stands elsewhere by now, and there may be locks of others. */
 void locks_left(uintptr_t from, uintptr_t to, uint32_t youngest)
 {
-    if (pass_over(from, to) >= to || !goes_far_inside(HERE))
+    if (pass_over(from, to) >= to)
         return;
-    if (recorder_enters()) {
-        for (uintptr_t at = from; (at = pass_over(at, to)) < to; at = (at / LOCK_PIECE + 1) * LOCK_PIECE) {
-            struct lock *next, *lock = atomic_load(lock_bucket(at));
-            for (; lock; lock = next) {
-                uintptr_t address = atomic_load(&lock->address);
-                next = atomic_load(&lock->next);
-                if (address >= from && address < to && lock->serial - 1 < youngest)
-                    forget(lock, false);
-            }
+    GOES_INSIDE_OR(HERE, return);
+    ENTERS_OR(return);
+    for (uintptr_t at = from; (at = pass_over(at, to)) < to; at = (at / LOCK_PIECE + 1) * LOCK_PIECE) {
+        struct lock *next, *lock = atomic_load(lock_bucket(at));
+        for (; lock; lock = next) {
+            uintptr_t address = atomic_load(&lock->address);
+            next = atomic_load(&lock->next);
+            if (address >= from && address < to && lock->serial - 1 < youngest)
+                forget(lock, false);
         }
-        recorder_leaves();
     }
-    goes_outside(&self);
 }
 
 void object_gone(uintptr_t from, uintptr_t to)
@@ -573,8 +523,6 @@ void object_gone(uintptr_t from, uintptr_t to)
 /* The program has closed a library. */
 void library_closed(void)
 {
-    if (!goes_far_inside(HERE))
-        return;
+    GOES_INSIDE_OR(HERE, return);
     objects_look();
-    self.state = OPEN;
 }

@@ -9,14 +9,10 @@
  */
 #include "elf_symbols.h"
 
-#include <dlfcn.h>
 #include <errno.h>
 #include <limits.h>
-#include <stdlib.h>
 #include <string.h>
 #include <sys/auxv.h>
-#include <sys/mman.h>
-#include <unistd.h>
 
 enum { OBJECTS = 1024, NAMES_BYTES = 1 << 18 };
 
@@ -252,6 +248,18 @@ static void name_program(void)
 }
 
 /* A walk that was overtaken by a later one tells nothing more. */
+static void take_newer(const struct walk *walk)
+{
+    ENTERS_OR(return);
+    if (walk->changes <= atomic_load(&changes_seen))
+        return;
+    bool first = objects_met == 0;
+    take_in(walk);
+    atomic_store(&changes_seen, walk->changes);
+    if (first)
+        name_program();
+}
+
 void objects_look(void)
 {
     struct walk *walk = table(sizeof *walk);
@@ -259,16 +267,8 @@ void objects_look(void)
         return;
     walk->changes = atomic_load(&changes_seen) + 1;
     dl_iterate_phdr(look_at, walk);
-    if (walk->count && recorder_enters()) {
-        if (walk->changes > atomic_load(&changes_seen)) {
-            bool first = objects_met == 0;
-            take_in(walk);
-            atomic_store(&changes_seen, walk->changes);
-            if (first)
-                name_program();
-        }
-        recorder_leaves();
-    }
+    if (walk->count)
+        take_newer(walk);
     table_goes(walk, sizeof *walk);
 }
 

@@ -45,109 +45,81 @@ static struct other glib[GLIB_COUNT], openmp[OPENMP_COUNT];
     ((__typeof__(type) *)atomic_load_explicit(&(library)[AT_##name].real, memory_order_relaxed))
 
 /* The ways of calls without an answer, and of tries that answer 0 where the lock isn't free. No call has a time limit. */
-#define WAY(kind, library, lock_name, try_name)                                                            \
-    static int kind##_lock(void *lock) { return REAL(by_address, library, lock_name)(lock), 0; }           \
-    static int kind##_try(void *lock)                                                                      \
-    {                                                                                                      \
-        return REAL(answered_by_address, library, try_name)(lock) ? 0 : EBUSY;                             \
-    }                                                                                                      \
-    static int kind##_timed(void *lock, const struct timespec *unused)                                     \
-    {                                                                                                      \
-        (void)unused;                                                                                      \
-        return kind##_lock(lock);                                                                          \
-    }                                                                                                      \
+#define WAY(kind, library, lock_name, try_name)                                                                        \
+    static int kind##_lock(void *lock) { return REAL(by_address, library, lock_name)(lock), 0; }                       \
+    static int kind##_try(void *lock)                                                                                  \
+    {                                                                                                                  \
+        return REAL(answered_by_address, library, try_name)(lock) ? 0 : EBUSY;                                         \
+    }                                                                                                                  \
+    static int kind##_timed(void *lock, const struct timespec *unused)                                                 \
+    {                                                                                                                  \
+        (void)unused;                                                                                                  \
+        return kind##_lock(lock);                                                                                      \
+    }                                                                                                                  \
     static const struct way kind##_way = {SPIN, EXCLUSIVE, kind##_lock, kind##_try, kind##_timed, kind##_try}
 
 WAY(glib, glib, g_mutex_lock, g_mutex_trylock);
 WAY(omp, openmp, omp_set_lock, omp_test_lock);
 
-static void own_g_mutex_init(void *mutex)
-{
-    REAL(by_address, glib, g_mutex_init)(mutex);
-    lock_made(mutex, SPIN, CALLER);
-}
+/* The library's calls that make a lock, destroy it, ask for it, try to get it, and release it. */
+#define MAKES(library, name)                                                                                           \
+    static void own_##name(void *lock)                                                                                 \
+    {                                                                                                                  \
+        REAL(by_address, library, name)(lock);                                                                         \
+        lock_made(lock, SPIN, CALLER);                                                                                 \
+    }
+#define DESTROYS(library, name)                                                                                        \
+    static void own_##name(void *lock)                                                                                 \
+    {                                                                                                                  \
+        REAL(by_address, library, name)(lock);                                                                         \
+        lock_gone(lock);                                                                                               \
+    }
+#define ASKS_FOR(way, name) static void own_##name(void *lock) { acquire(&way, lock, CALLER); }
+#define TRIES_FOR(way, name) static int own_##name(void *lock) { return acquire_at_once(&way, lock, CALLER) == 0; }
+#define RELEASES(library, name)                                                                                        \
+    static void own_##name(void *lock)                                                                                 \
+    {                                                                                                                  \
+        release(lock, CALLER);                                                                                         \
+        REAL(by_address, library, name)(lock);                                                                         \
+    }
 
-static void own_g_mutex_clear(void *mutex)
-{
-    REAL(by_address, glib, g_mutex_clear)(mutex);
-    lock_gone(mutex);
-}
+MAKES(glib, g_mutex_init)
+DESTROYS(glib, g_mutex_clear)
+ASKS_FOR(glib_way, g_mutex_lock)
+TRIES_FOR(glib_way, g_mutex_trylock)
+RELEASES(glib, g_mutex_unlock)
+MAKES(openmp, omp_init_lock)
+DESTROYS(openmp, omp_destroy_lock)
+ASKS_FOR(omp_way, omp_set_lock)
+TRIES_FOR(omp_way, omp_test_lock)
+RELEASES(openmp, omp_unset_lock)
+MAKES(openmp, omp_init_nest_lock)
+DESTROYS(openmp, omp_destroy_nest_lock)
+RELEASES(openmp, GOMP_critical_name_end)
 
-static void own_g_mutex_lock(void *mutex)
+static bool own_wait(void *condition, void *mutex, struct caller caller, const int64_t *end)
 {
-    acquire(&glib_way, mutex, CALLER);
-}
-
-static int own_g_mutex_trylock(void *mutex)
-{
-    return acquire_at_once(&glib_way, mutex, CALLER) == 0;
-}
-
-static void own_g_mutex_unlock(void *mutex)
-{
-    release(mutex, CALLER);
-    REAL(by_address, glib, g_mutex_unlock)(mutex);
+    struct request request;
+    bool is_signaled = true;
+    start();
+    bool recorded = wait_begins(&request, mutex, true, caller);
+    if (end)
+        is_signaled = REAL(int(void *, void *, int64_t), glib, g_cond_wait_until)(condition, mutex, *end);
+    else
+        REAL(void(void *, void *), glib, g_cond_wait)(condition, mutex);
+    if (recorded)
+        wait_ends(&request, 0);
+    return is_signaled;
 }
 
 static void own_g_cond_wait(void *condition, void *mutex)
 {
-    struct request request;
-    start();
-    bool recorded = wait_begins(&request, mutex, true, CALLER);
-    REAL(void(void *, void *), glib, g_cond_wait)(condition, mutex);
-    if (recorded)
-        wait_ends(&request, 0);
+    own_wait(condition, mutex, CALLER, NULL);
 }
 
 static int own_g_cond_wait_until(void *condition, void *mutex, int64_t end)
 {
-    struct request request;
-    start();
-    bool recorded = wait_begins(&request, mutex, true, CALLER);
-    int signaled = REAL(int(void *, void *, int64_t), glib, g_cond_wait_until)(condition, mutex, end);
-    if (recorded)
-        wait_ends(&request, 0);
-    return signaled;
-}
-
-static void own_omp_init_lock(void *lock)
-{
-    REAL(by_address, openmp, omp_init_lock)(lock);
-    lock_made(lock, SPIN, CALLER);
-}
-
-static void own_omp_destroy_lock(void *lock)
-{
-    REAL(by_address, openmp, omp_destroy_lock)(lock);
-    lock_gone(lock);
-}
-
-static void own_omp_set_lock(void *lock)
-{
-    acquire(&omp_way, lock, CALLER);
-}
-
-static int own_omp_test_lock(void *lock)
-{
-    return acquire_at_once(&omp_way, lock, CALLER) == 0;
-}
-
-static void own_omp_unset_lock(void *lock)
-{
-    release(lock, CALLER);
-    REAL(by_address, openmp, omp_unset_lock)(lock);
-}
-
-static void own_omp_init_nest_lock(void *lock)
-{
-    REAL(by_address, openmp, omp_init_nest_lock)(lock);
-    lock_made(lock, SPIN, CALLER);
-}
-
-static void own_omp_destroy_nest_lock(void *lock)
-{
-    REAL(by_address, openmp, omp_destroy_nest_lock)(lock);
-    lock_gone(lock);
+    return own_wait(condition, mutex, CALLER, &end);
 }
 
 /*
@@ -212,12 +184,6 @@ static void own_GOMP_critical_end(void)
 static void own_GOMP_critical_name_start(void **name)
 {
     enter_critical(name, CALLER, REAL(by_address, openmp, GOMP_critical_name_start), name);
-}
-
-static void own_GOMP_critical_name_end(void **name)
-{
-    release(name, CALLER);
-    REAL(by_address, openmp, GOMP_critical_name_end)(name);
 }
 
 #define OWN_OF(function) [AT_##function] = {.name = #function, .own = (void *)own_##function},

@@ -14,7 +14,6 @@
  */
 #include "steer.h"
 
-#include <stdlib.h>
 #include <string.h>
 #include <strings.h>
 #include <sys/auxv.h>
@@ -46,10 +45,22 @@ bool places_made(void)
     return places != NULL;
 }
 
-static bool ends_with(const char *name, const char *end)
+/* What follows in the name after the first of these that it begins with, NULL where it begins with none. */
+static const char *after_one_of(const char *name, const char *const *beginnings)
 {
-    size_t length = strlen(name), wanted = strlen(end);
-    return length >= wanted && strcasecmp(name + length - wanted, end) == 0;
+    for (; *beginnings; beginnings++)
+        if (strncmp(name, *beginnings, strlen(*beginnings)) == 0)
+            return name + strlen(*beginnings);
+    return NULL;
+}
+
+/* Whether the word ends with one of these, in letters of any case. */
+static bool ends_with_one_of(const char *word, const char *const *ends)
+{
+    bool does = false;
+    for (size_t length = strlen(word); *ends && !does; ends++)
+        does = length >= strlen(*ends) && strcasecmp(word + length - strlen(*ends), *ends) == 0;
+    return does;
 }
 
 /* The last word of a C++ name: `lock` of Mutex::lock, `Mutex` of Mutex's constructor; any other name as it is. */
@@ -102,35 +113,6 @@ static bool is_passed_over(const char *name)
     return false;
 }
 
-/* Whether the function is the C++ library's, by its name; *rest becomes what follows the namespace there. */
-static bool is_library(const char *name, const char **rest)
-{
-    static const char *const own[] = {"_ZNSt3__1", "_ZNKSt3__1", "_ZNSt", "_ZNKSt", "_ZSt"};
-    for (size_t i = 0; i < sizeof own / sizeof *own; i++)
-        if (strncmp(name, own[i], strlen(own[i])) == 0) {
-            *rest = name + strlen(own[i]);
-            return true;
-        }
-    return false;
-}
-
-/* What kind of a function of the C++ library begins so, after the namespace. */
-static uint8_t library_detour(const char *name)
-{
-    /* A thread's way to its function, which is often inlined there: behind it there is nothing of the program. */
-    static const char *const runs[] = {"6thread11_State_impl", "14__thread_proxy"};
-    static const char *const locks[] = {"5mutex", "10lock_guard", "11unique_lock", "11scoped_lock", "11shared_lock",
-        "11timed_mutex", "12shared_mutex", "12__mutex_base", "15recursive_mutex", "18shared_timed_mutex",
-        "21recursive_timed_mutex", "22__shared_mutex_pthread"};
-    for (size_t i = 0; i < sizeof runs / sizeof *runs; i++)
-        if (strncmp(name, runs[i], strlen(runs[i])) == 0)
-            return DETOUR_NONE;
-    for (size_t i = 0; i < sizeof locks / sizeof *locks; i++)
-        if (strncmp(name, locks[i], strlen(locks[i])) == 0)
-            return DETOUR_WRAPPER;
-    return DETOUR_LIBRARY;
-}
-
 /*
  * By the name of a function and its size: whether it does something with a lock and little else. What stands in for one of
  * pthread's, as ThreadSanitizer does, may do more.
@@ -138,20 +120,14 @@ static uint8_t library_detour(const char *name)
 static bool is_wrapper(const char *name, uint64_t size)
 {
     static const char *const within[] = {LIBRARY_WRAPPERS};
-    static const char *const others[] = {NO_WRAPPER_ENDS};
-    static const char *const ends[] = {WRAPPER_ENDS};
+    static const char *const others[] = {NO_WRAPPER_ENDS, NULL}, *const ends[] = {WRAPPER_ENDS, NULL};
     char word[WORD_MOST];
     for (size_t i = 0; i < sizeof within / sizeof *within; i++)
         if (strstr(name, within[i]))
             return true;
     last_word(name, word);
-    for (size_t i = 0; i < sizeof others / sizeof *others; i++)
-        if (ends_with(word, others[i]))
-            return false;
-    for (size_t i = 0; i < sizeof ends / sizeof *ends; i++)
-        if (ends_with(word, ends[i]))
-            return size <= WRAPPER_BYTES || strncmp(word, "pthread_", 8) == 0;
-    return false;
+    return !ends_with_one_of(word, others) && ends_with_one_of(word, ends)
+        && (size <= WRAPPER_BYTES || strncmp(word, "pthread_", 8) == 0);
 }
 
 /* Whether the function is one of Rust's own libraries, or of the crate that annotates locks, by its mangled name. */
@@ -177,28 +153,30 @@ static bool is_of_rust(const char *name)
 /* Whether the function does little else than take memory for its caller: operator new, xmalloc. */
 static bool is_taker(const char *name, uint64_t size)
 {
-    static const char *const ends[] = {TAKER_ENDS};
+    static const char *const news[] = {"_Znw", "_Zna", NULL}, *const ends[] = {TAKER_ENDS, NULL};
     char word[WORD_MOST];
-    if (strncmp(name, "_Znw", 4) == 0 || strncmp(name, "_Zna", 4) == 0)
-        return true;
     last_word(name, word);
-    for (size_t i = 0; size <= WRAPPER_BYTES && i < sizeof ends / sizeof *ends; i++)
-        if (ends_with(word, ends[i]))
-            return true;
-    return false;
+    return after_one_of(name, news) || (size <= WRAPPER_BYTES && ends_with_one_of(word, ends));
 }
 
 static uint8_t detour_of(const char *name, uint64_t size)
 {
-    const char *rest;
+    static const char *const library[] = {"_ZNSt3__1", "_ZNKSt3__1", "_ZNSt", "_ZNKSt", "_ZSt", NULL};
+    static const char *const of_compiler[] = {"_ZN9__gnu_cxx", "_ZNK9__gnu_cxx", NULL};
+    /* A thread's way to its function, which is often inlined there: behind it there is nothing of the program. */
+    static const char *const runs[] = {"6thread11_State_impl", "14__thread_proxy", NULL};
+    static const char *const locks[] = {"5mutex", "10lock_guard", "11unique_lock", "11scoped_lock", "11shared_lock",
+        "11timed_mutex", "12shared_mutex", "12__mutex_base", "15recursive_mutex", "18shared_timed_mutex",
+        "21recursive_timed_mutex", "22__shared_mutex_pthread", NULL};
+    const char *in_library = after_one_of(name, library);
     if (is_passed_over(name))
         return DETOUR_WRAPPER;
-    if (is_of_rust(name))
+    if (is_of_rust(name) || after_one_of(name, of_compiler))
         return DETOUR_LIBRARY;
-    if (is_library(name, &rest))
-        return library_detour(rest);
-    if (strncmp(name, "_ZN9__gnu_cxx", 13) == 0 || strncmp(name, "_ZNK9__gnu_cxx", 14) == 0)
-        return DETOUR_LIBRARY;
+    if (in_library)
+        return after_one_of(in_library, runs) ? DETOUR_NONE
+            : after_one_of(in_library, locks) ? DETOUR_WRAPPER
+                                              : DETOUR_LIBRARY;
     return is_wrapper(name, size) ? DETOUR_WRAPPER : DETOUR_NONE;
 }
 
@@ -218,58 +196,47 @@ static void look_up(struct place *place, uintptr_t pc)
         place->detour = detour;
 }
 
-static void add(uintptr_t pc, int32_t step, bool leaves_base)
-{
-    uint32_t number = place_at_pc(pc);
-    if (number) {
-        if (place_at(number)->step != step)
-            place_at(number)->step = STEP_VARIES;
-        place_at(number)->leaves_base |= leaves_base;
-        return;
-    }
-    if (places_met >= PLACES / 4 * 3)
-        return;
-    uint32_t object = object_of(pc - 1, true);
-    uint32_t slot = place_slot(pc);
-    for (uintptr_t met; (met = atomic_load_explicit(&places[slot].pc, memory_order_relaxed)) != 0;) {
-        if (met == PC_CLOSED && places[slot].closed == pc && places[slot].object == object) {
-            atomic_store_explicit(&places[slot].pc, pc, memory_order_release);
-            return;
-        }
-        slot = (slot + 1) % PLACES;
-    }
-    struct place *place = &places[slot];
-    place->step = step;
-    place->leaves_base = leaves_base;
-    place->name = "";
-    place->detour = frames_shown > 1 ? DETOUR_STACKS : DETOUR_NONE;
-    place->object = (uint16_t)object;
-    if (place->object)
-        look_up(place, pc);
-    if (UNLIKELY(steers))
-        steer_place(place);
-    places_met++;
-    atomic_store_explicit(&place->pc, pc, memory_order_release);
-}
-
-uint32_t place_named(uintptr_t pc, const char *file, unsigned line, const char *function)
+/* The number of the place, which is made as GIVEN where it wasn't met; 0 without room for it. Under the mutex. */
+static uint32_t place_made(uintptr_t pc, const struct place *given)
 {
     uint32_t number = place_at_pc(pc), slot = place_slot(pc);
     if (number || places_met >= PLACES / 4 * 3)
         return number;
-    while (atomic_load_explicit(&places[slot].pc, memory_order_relaxed) != 0)
+    for (uintptr_t met; (met = atomic_load_explicit(&places[slot].pc, memory_order_relaxed)) != 0;) {
+        if (met == PC_CLOSED && places[slot].closed == pc && places[slot].object == given->object)
+            break;
         slot = (slot + 1) % PLACES;
+    }
     struct place *place = &places[slot];
-    place->step = STEP_LAST;
-    place->detour = frames_shown > 1 ? DETOUR_STACKS : DETOUR_NONE;
-    place->name = function;
-    place->offset = line;
-    place->file = file;
-    if (UNLIKELY(steers))
-        steer_place(place);
-    places_met++;
+    if (atomic_load_explicit(&place->pc, memory_order_relaxed) == 0) {
+        *place = *given;
+        place->detour = frames_shown > 1 ? DETOUR_STACKS : DETOUR_NONE;
+        if (place->object)
+            look_up(place, pc);
+        if (UNLIKELY(steers))
+            steer_place(place);
+        places_met++;
+    }
     atomic_store_explicit(&place->pc, pc, memory_order_release);
     return slot + 1;
+}
+
+static void add(uintptr_t pc, int32_t step, bool leaves_base)
+{
+    uint32_t number = place_at_pc(pc);
+    if (!number) {
+        uint16_t object = places_met < PLACES / 4 * 3 ? (uint16_t)object_of(pc - 1, true) : 0;
+        place_made(pc, &(struct place){.step = step, .leaves_base = leaves_base, .name = "", .object = object});
+        return;
+    }
+    if (place_at(number)->step != step)
+        place_at(number)->step = STEP_VARIES;
+    place_at(number)->leaves_base |= leaves_base;
+}
+
+uint32_t place_named(uintptr_t pc, const char *file, unsigned line, const char *function)
+{
+    return place_made(pc, &(struct place){.step = STEP_LAST, .name = function, .offset = line, .file = file});
 }
 
 /* The object is mapped no longer: at its addresses there may be another. Its places stay, with their numbers. */
@@ -383,8 +350,7 @@ COLD static void unwind(struct caller caller, struct stack *stack)
     bool blind = stack->count < FRAMES && !has_tables(last);
     if (!objects_are_found())
         objects_look();
-    if (!recorder_enters())
-        return;
+    ENTERS_OR(return);
     if (blind && !is_complete(stack))
         object_ends_stacks(object_of(last - 1, true));
     for (uint32_t i = 0; i + 1 < stack->count; i++)
@@ -392,7 +358,6 @@ COLD static void unwind(struct caller caller, struct stack *stack)
             leaves_base(&stack->frames[i], &stack->frames[i + 1]));
     if (stack->count < FRAMES)
         add(stack->frames[stack->count - 1].pc, STEP_LAST, false);
-    recorder_leaves();
 }
 
 /* Goes to the frame's own caller. False where the unwinder has to be asked. */
@@ -427,26 +392,9 @@ static uintptr_t pair_pc(uint32_t library, uint32_t rest)
 /* Makes the place that stands for the two. Without room for it, the second one. */
 COLD static uint32_t pair_made(uint32_t library, uint32_t rest)
 {
-    uintptr_t pc = pair_pc(library, rest);
-    if (!recorder_enters())
-        return rest;
-    uint32_t number = place_at_pc(pc);
-    if (number == 0 && places_met < PLACES / 4 * 3) {
-        uint32_t slot = place_slot(pc);
-        while (atomic_load_explicit(&places[slot].pc, memory_order_relaxed) != 0)
-            slot = (slot + 1) % PLACES;
-        struct place *place = &places[slot];
-        place->name = "";
-        place->detour = frames_shown > 1 ? DETOUR_STACKS : DETOUR_NONE;
-        place->library = library;
-        place->rest = rest;
-        if (UNLIKELY(steers))
-            steer_place(place);
-        places_met++;
-        atomic_store_explicit(&place->pc, pc, memory_order_release);
-        number = slot + 1;
-    }
-    recorder_leaves();
+    ENTERS_OR(return rest);
+    uint32_t number
+        = place_made(pair_pc(library, rest), &(struct place){.name = "", .library = library, .rest = rest});
     return number ? number : rest;
 }
 

@@ -12,7 +12,6 @@
 #include <limits.h>
 #include <stdarg.h>
 #include <string.h>
-#include <unistd.h>
 
 extern char **environ;
 
@@ -54,102 +53,60 @@ static int comes_back(int answer)
     return answer;
 }
 
-/* `words` becomes the words of the call: FIRST, and those after it up to NULL. */
-#define WORDS(first)                                                                                       \
-    va_list list;                                                                                          \
-    size_t count = 1;                                                                                      \
-    va_start(list, first);                                                                                 \
-    while (va_arg(list, const char *))                                                                     \
-        count++;                                                                                           \
-    va_end(list);                                                                                          \
-    char *words[count + 1];                                                                                \
-    words[0] = (char *)(first);                                                                            \
-    va_start(list, first);                                                                                 \
-    for (size_t i = 1; i <= count; i++)                                                                    \
-        words[i] = va_arg(list, char *)
+/* A call that is PROGRAM from then on, or comes back. */
+#define BECOMES(name, program, real_call, ...)                                                                         \
+    EXPORT int name(__VA_ARGS__)                                                                                       \
+    {                                                                                                                  \
+        begins(program);                                                                                               \
+        return comes_back(real.real_call);                                                                             \
+    }
+BECOMES(execve, path, execve(path, words, environment), const char *path, char *const words[], char *const environment[])
+BECOMES(execv, path, execve(path, words, environ), const char *path, char *const words[])
+BECOMES(execvp, file, execvpe(file, words, environ), const char *file, char *const words[])
+BECOMES(execvpe, file, execvpe(file, words, environment), const char *file, char *const words[],
+    char *const environment[])
+BECOMES(fexecve, is_readable(words) ? words[0] : NULL, fexecve(file, words, environment), int file, char *const words[],
+    char *const environment[])
+BECOMES(execveat, path, execveat(folder, path, words, environment, flags), int folder, const char *path,
+    char *const words[], char *const environment[], int flags)
 
-EXPORT int execve(const char *path, char *const words[], char *const environment[])
-{
-    begins(path);
-    return comes_back(real.execve(path, words, environment));
-}
+/* One whose words are arguments, up to NULL: after that stands the ENVIRONMENT, if it has one. */
+#define BECOMES_BY_WORDS(name, real_name, environment)                                                                 \
+    EXPORT int name(const char *path, const char *word, ...)                                                           \
+    {                                                                                                                  \
+        va_list list;                                                                                                  \
+        size_t count = 1;                                                                                              \
+        va_start(list, word);                                                                                          \
+        while (va_arg(list, const char *))                                                                             \
+            count++;                                                                                                   \
+        va_end(list);                                                                                                  \
+        char *words[count + 1];                                                                                        \
+        words[0] = (char *)word;                                                                                       \
+        va_start(list, word);                                                                                          \
+        for (size_t i = 1; i <= count; i++)                                                                            \
+            words[i] = va_arg(list, char *);                                                                           \
+        char **given = environment;                                                                                    \
+        va_end(list);                                                                                                  \
+        begins(path);                                                                                                  \
+        return comes_back(real.real_name(path, words, given));                                                         \
+    }
+BECOMES_BY_WORDS(execl, execve, environ)
+BECOMES_BY_WORDS(execlp, execvpe, environ)
+BECOMES_BY_WORDS(execle, execve, va_arg(list, char **))
 
-EXPORT int execv(const char *path, char *const words[])
-{
-    begins(path);
-    return comes_back(real.execve(path, words, environ));
-}
-
-EXPORT int execvp(const char *file, char *const words[])
-{
-    begins(file);
-    return comes_back(real.execvpe(file, words, environ));
-}
-
-EXPORT int execvpe(const char *file, char *const words[], char *const environment[])
-{
-    begins(file);
-    return comes_back(real.execvpe(file, words, environment));
-}
-
-EXPORT int execl(const char *path, const char *word, ...)
-{
-    WORDS(word);
-    va_end(list);
-    begins(path);
-    return comes_back(real.execve(path, words, environ));
-}
-
-EXPORT int execlp(const char *file, const char *word, ...)
-{
-    WORDS(word);
-    va_end(list);
-    begins(file);
-    return comes_back(real.execvpe(file, words, environ));
-}
-
-EXPORT int execle(const char *path, const char *word, ...)
-{
-    WORDS(word);
-    char **environment = va_arg(list, char **);
-    va_end(list);
-    begins(path);
-    return comes_back(real.execve(path, words, environment));
-}
-
-EXPORT int fexecve(int file, char *const words[], char *const environment[])
-{
-    begins(is_readable(words) ? words[0] : NULL);
-    return comes_back(real.fexecve(file, words, environment));
-}
-
-EXPORT int execveat(int folder, const char *path, char *const words[], char *const environment[], int flags)
-{
-    begins(path);
-    return comes_back(real.execveat(folder, path, words, environment, flags));
-}
-
-EXPORT int posix_spawn(pid_t *process, const char *path, const posix_spawn_file_actions_t *actions,
-    const posix_spawnattr_t *attributes, char *const words[], char *const environment[])
-{
-    pid_t own;
-    start();
-    int answer = real.spawn(process ? process : &own, path, actions, attributes, words, environment);
-    if (answer == 0)
-        status_started(process ? *process : own, path);
-    return answer;
-}
-
-EXPORT int posix_spawnp(pid_t *process, const char *file, const posix_spawn_file_actions_t *actions,
-    const posix_spawnattr_t *attributes, char *const words[], char *const environment[])
-{
-    pid_t own;
-    start();
-    int answer = real.spawnp(process ? process : &own, file, actions, attributes, words, environment);
-    if (answer == 0)
-        status_started(process ? *process : own, file);
-    return answer;
-}
+#define SPAWNS(name)                                                                                                   \
+    EXPORT int name(pid_t *process, const char *path, const posix_spawn_file_actions_t *actions,                       \
+        const posix_spawnattr_t *attributes, char *const words[], char *const environment[])                           \
+    {                                                                                                                  \
+        pid_t own;                                                                                                     \
+        start();                                                                                                       \
+        int answer = real.name(process ? process : &own, path, actions, attributes, words, environment);               \
+        if (answer == 0)                                                                                               \
+            status_started(process ? *process : own, path);                                                            \
+        return answer;                                                                                                 \
+    }
+SPAWNS(posix_spawn)
+SPAWNS(posix_spawnp)
 
 static bool has_word(const char *word)
 {
@@ -163,13 +120,11 @@ static bool has_word(const char *word)
 static COLD void shell_begins(uintptr_t stack)
 {
     start();
-    if ((has_word("LD_PRELOAD=") && has_word("RECORDER_DIRECTORY=")) || !goes_far_inside(stack))
+    if (has_word("LD_PRELOAD=") && has_word("RECORDER_DIRECTORY="))
         return;
-    if (recorder_enters()) {
-        count_failure(FAILED_BARE);
-        recorder_leaves();
-    }
-    goes_outside(&self);
+    GOES_INSIDE_OR(stack, return);
+    ENTERS_OR(return);
+    count_failure(FAILED_BARE);
 }
 
 EXPORT int system(const char *command)

@@ -7,7 +7,6 @@
 
 #include <errno.h>
 #include <sys/syscall.h>
-#include <unistd.h>
 
 bool is_readable(const void *address)
 {

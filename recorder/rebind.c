@@ -9,18 +9,16 @@
  * This is done when the recorder begins. What the program opens after that is looked at before its next dlsym or dlopen:
  * dlopen itself goes by who has called it, so nothing can be done at its end.
  */
+#include "elf_symbols.h"
 #include "others.h"
 
-#include <dlfcn.h>
 #include <elf.h>
 #include <errno.h>
 #include <limits.h>
 #include <link.h>
 #include <linux/futex.h>
 #include <string.h>
-#include <sys/mman.h>
 #include <sys/syscall.h>
-#include <unistd.h>
 
 static _Atomic bool may_have_come, looks;
 /* So many objects, of those that are there, were looked at; and how many were gone by then. */
@@ -59,12 +57,6 @@ static int walk_on(struct dl_phdr_info *info, size_t size, void *argument)
     return 0;
 }
 
-static const char *base_of(const char *path)
-{
-    const char *slash = strrchr(path, '/');
-    return slash ? slash + 1 : path;
-}
-
 static bool is_named(const struct other_library *library, const char *name)
 {
     for (const char *const *each = library->names; *each; each++) {
@@ -80,7 +72,7 @@ static uint32_t new_ones;
 static bool meet(const struct dl_phdr_info *info)
 {
     for (uint32_t i = 0; i < others_count; i++) {
-        if ((met >> i & 1) || !is_named(&others[i], base_of(info->dlpi_name)) || strlen(info->dlpi_name) >= PATH_MAX)
+        if ((met >> i & 1) || !is_named(&others[i], basename(info->dlpi_name)) || strlen(info->dlpi_name) >= PATH_MAX)
             continue;
         strcpy(paths[i], info->dlpi_name);
         new_ones |= 1u << i;
@@ -117,26 +109,15 @@ struct dynamic {
     bool is_open;
 };
 
-/* Most objects have addresses there, some what is to be added to where they begin. */
-static const void *at(const struct dynamic *object, const ElfW(Dyn) *entry)
+static void read_entries(struct dynamic *object, const ElfW(Dyn) *entries)
 {
-    uintptr_t address = entry->d_un.d_ptr;
-    return (const void *)(address < object->base ? address + object->base : address);
-}
-
-static void read_entries(struct dynamic *object)
-{
-    for (const ElfW(Dyn) *entry = object->entries; entry->d_tag != DT_NULL; entry++) {
-        switch (entry->d_tag) {
-        case DT_SYMTAB: object->symbols = at(object, entry); break;
-        case DT_STRTAB: object->strings = at(object, entry); break;
-        case DT_RELA: object->words = at(object, entry); break;
-        case DT_JMPREL: object->calls = at(object, entry); break;
-        case DT_RELASZ: object->words_count = entry->d_un.d_val / sizeof *object->words; break;
-        case DT_PLTRELSZ: object->calls_count = entry->d_un.d_val / sizeof *object->calls; break;
-        case DT_RELACOUNT: object->relative_count = entry->d_un.d_val; break;
-        }
-    }
+    object->symbols = dynamic_pointer(entries, DT_SYMTAB, object->base);
+    object->strings = dynamic_pointer(entries, DT_STRTAB, object->base);
+    object->words = dynamic_pointer(entries, DT_RELA, object->base);
+    object->calls = dynamic_pointer(entries, DT_JMPREL, object->base);
+    object->words_count = dynamic_word(entries, DT_RELASZ) / sizeof *object->words;
+    object->calls_count = dynamic_word(entries, DT_PLTRELSZ) / sizeof *object->calls;
+    object->relative_count = dynamic_word(entries, DT_RELACOUNT);
 }
 
 static bool dynamic_read(struct dynamic *object, const struct dl_phdr_info *info)
@@ -153,7 +134,7 @@ static bool dynamic_read(struct dynamic *object, const struct dl_phdr_info *info
         }
     }
     if (object->entries)
-        read_entries(object);
+        read_entries(object, object->entries);
     return object->symbols && object->strings;
 }
 
@@ -189,14 +170,6 @@ static bool is_code_of(const struct dl_phdr_info *info, uintptr_t address)
     return false;
 }
 
-static struct other *function_named(struct other_library *library, const char *name)
-{
-    for (uint32_t i = 0; i < library->count; i++)
-        if (strcmp(library->functions[i].name, name) == 0)
-            return &library->functions[i];
-    return NULL;
-}
-
 static bool may_be_written(struct dynamic *object, uintptr_t word)
 {
     if (object->is_open || word < object->kept_from || word >= object->kept_to)
@@ -214,8 +187,10 @@ static void rebind_word(struct dynamic *object, const struct dl_phdr_info *info,
     if ((kind != R_X86_64_JUMP_SLOT && kind != R_X86_64_GLOB_DAT && kind != R_X86_64_64) || symbol->st_shndx != SHN_UNDEF
         || entry->r_addend != 0)
         return;
-    struct other *function = function_named(library, object->strings + symbol->st_name);
-    void *there = function ? atomic_load(&function->real) : NULL;
+    struct other *function = library->functions, *end = function + library->count;
+    while (function < end && strcmp(function->name, object->strings + symbol->st_name) != 0)
+        function++;
+    void *there = function < end ? atomic_load(&function->real) : NULL;
     if (!there)
         return;
     _Atomic(void *) *word = (_Atomic(void *) *)(object->base + entry->r_offset);

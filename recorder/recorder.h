@@ -41,6 +41,7 @@
 
 #include "format.h"
 
+#include <dlfcn.h>
 #include <pthread.h>
 #include <semaphore.h>
 #include <signal.h>
@@ -50,9 +51,14 @@
 #include <spawn.h>
 #include <stdint.h>
 #include <stdio.h>
+#include <stdlib.h>
+#include <sys/mman.h>
 #include <sys/types.h>
 #include <threads.h>
 #include <time.h>
+#include <unistd.h>
+
+int __register_atfork(void (*)(void), void (*)(void), void (*)(void), void *); /* what pthread_atfork calls */
 
 /* What the files share is seen in this object alone. So it is reached without a look into a table of addresses. */
 #pragma GCC visibility push(hidden)
@@ -152,7 +158,7 @@ struct type {
     struct type *next; /* in its bucket */
     struct marks marks;
     uint32_t names_made;
-    struct name *first_free, *last_free; /* names of locks that are gone, the longest gone first */
+    struct name *free, **free_end; /* names of locks that are gone, the longest gone first; where the next one goes */
 };
 
 /*
@@ -206,8 +212,8 @@ struct held {
 /* What `how` is of a lock that was acquired once, in that mode, and isn't written. */
 #define HOW_ONCE(mode) ((uint64_t)(mode) << 32 | 1)
 /*
- * IS_WRITTEN: the stream has it held. KEPT_ON: since the lock was acquired, a request with a time limit has ended without its lock
- * (repeats.c). What is released quickly isn't written, so such a lock isn't.
+ * IS_WRITTEN: the stream has it held. KEPT_ON: since the lock was acquired, a request with a time limit has ended
+ * without its lock (repeats.c). What is released quickly isn't written, so such a lock isn't.
  */
 enum { IS_WRITTEN = 1, KEPT_ON = 2 };
 
@@ -217,7 +223,7 @@ struct repeated {
     uint32_t place;
     bool lingers;   /* its line stands as one that waits, though the thread is in no call */
     uint8_t times;  /* how often one came to linger */
-    int64_t since;  /* when it ended first, in milliseconds */
+    uint64_t since; /* when it ended first, in milliseconds */
 };
 
 /*
@@ -272,6 +278,7 @@ struct request {
     bool again_refused; /* the thread holds the lock, and it isn't one to be acquired again */
     bool waited_for_itself; /* that was written */
     bool pending;       /* the stream has it */
+    bool got;           /* it has ended with the lock */
     uint32_t number;
 };
 
@@ -291,67 +298,75 @@ enum lock_error {
 
 /* start.c */
 typedef void handler(int);
+/*
+ * The real functions, and where an object has several of a name the version of the one that programs of today are linked to.
+ * The first five may be called while the others are looked for.
+ */
+#define EACH_REAL(EACH)                                                                                                \
+    EACH(__register_atfork, NULL)                                                                                      \
+    EACH(pthread_mutex_lock, NULL)                                                                                     \
+    EACH(pthread_mutex_trylock, NULL)                                                                                  \
+    EACH(pthread_mutex_unlock, NULL)                                                                                   \
+    EACH(free, NULL)                                                                                                   \
+    EACH(pthread_mutex_init, NULL)                                                                                     \
+    EACH(pthread_mutex_destroy, NULL)                                                                                  \
+    EACH(pthread_mutex_timedlock, NULL)                                                                                \
+    EACH(pthread_mutex_clocklock, NULL)                                                                                \
+    EACH(pthread_rwlock_init, NULL)                                                                                    \
+    EACH(pthread_rwlock_destroy, NULL)                                                                                 \
+    EACH(pthread_rwlock_rdlock, NULL)                                                                                  \
+    EACH(pthread_rwlock_tryrdlock, NULL)                                                                               \
+    EACH(pthread_rwlock_timedrdlock, NULL)                                                                             \
+    EACH(pthread_rwlock_clockrdlock, NULL)                                                                             \
+    EACH(pthread_rwlock_wrlock, NULL)                                                                                  \
+    EACH(pthread_rwlock_trywrlock, NULL)                                                                               \
+    EACH(pthread_rwlock_timedwrlock, NULL)                                                                             \
+    EACH(pthread_rwlock_clockwrlock, NULL)                                                                             \
+    EACH(pthread_rwlock_unlock, NULL)                                                                                  \
+    EACH(pthread_spin_init, NULL)                                                                                      \
+    EACH(pthread_spin_destroy, NULL)                                                                                   \
+    EACH(pthread_spin_lock, NULL)                                                                                      \
+    EACH(pthread_spin_trylock, NULL)                                                                                   \
+    EACH(pthread_spin_unlock, NULL)                                                                                    \
+    EACH(pthread_cond_wait, "GLIBC_2.3.2")                                                                             \
+    EACH(pthread_cond_timedwait, "GLIBC_2.3.2")                                                                        \
+    EACH(pthread_cond_clockwait, NULL)                                                                                 \
+    EACH(mtx_init, NULL)                                                                                               \
+    EACH(sem_init, NULL)                                                                                               \
+    EACH(sem_destroy, NULL)                                                                                            \
+    EACH(sem_wait, NULL)                                                                                               \
+    EACH(sem_trywait, NULL)                                                                                            \
+    EACH(sem_timedwait, NULL)                                                                                          \
+    EACH(sem_clockwait, NULL)                                                                                          \
+    EACH(sem_post, NULL)                                                                                               \
+    EACH(pthread_create, NULL)                                                                                         \
+    EACH(thrd_create, NULL)                                                                                            \
+    EACH(pthread_join, NULL)                                                                                           \
+    EACH(thrd_join, NULL)                                                                                              \
+    EACH(dlclose, NULL)                                                                                                \
+    EACH(dlopen, NULL)                                                                                                 \
+    EACH(dlmopen, NULL)                                                                                                \
+    EACH(system, NULL)                                                                                                 \
+    EACH(popen, NULL)                                                                                                  \
+    EACH(execve, NULL)                                                                                                 \
+    EACH(execvpe, NULL)                                                                                                \
+    EACH(fexecve, NULL)                                                                                                \
+    EACH(execveat, NULL)                                                                                               \
+    EACH(posix_spawn, "GLIBC_2.15")                                                                                    \
+    EACH(posix_spawnp, "GLIBC_2.15")                                                                                   \
+    EACH(sigaction, NULL)                                                                                              \
+    EACH(signal, NULL)                                                                                                 \
+    EACH(__sysv_signal, NULL)                                                                                          \
+    EACH(sigset, NULL)                                                                                                 \
+    EACH(sigaltstack, NULL)                                                                                            \
+    EACH(mlockall, NULL)
+#define MEMBER_OF(function, version) __typeof__(function) *function;
+#pragma GCC diagnostic push
+#pragma GCC diagnostic ignored "-Wdeprecated-declarations"
 struct real {
-    int (*mutex_init)(pthread_mutex_t *, const pthread_mutexattr_t *);
-    int (*mutex_destroy)(pthread_mutex_t *);
-    int (*mutex_lock)(pthread_mutex_t *);
-    int (*mutex_trylock)(pthread_mutex_t *);
-    int (*mutex_timedlock)(pthread_mutex_t *, const struct timespec *);
-    int (*mutex_clocklock)(pthread_mutex_t *, clockid_t, const struct timespec *);
-    int (*mutex_unlock)(pthread_mutex_t *);
-    int (*rwlock_init)(pthread_rwlock_t *, const pthread_rwlockattr_t *);
-    int (*rwlock_destroy)(pthread_rwlock_t *);
-    int (*rwlock_rdlock)(pthread_rwlock_t *);
-    int (*rwlock_tryrdlock)(pthread_rwlock_t *);
-    int (*rwlock_timedrdlock)(pthread_rwlock_t *, const struct timespec *);
-    int (*rwlock_clockrdlock)(pthread_rwlock_t *, clockid_t, const struct timespec *);
-    int (*rwlock_wrlock)(pthread_rwlock_t *);
-    int (*rwlock_trywrlock)(pthread_rwlock_t *);
-    int (*rwlock_timedwrlock)(pthread_rwlock_t *, const struct timespec *);
-    int (*rwlock_clockwrlock)(pthread_rwlock_t *, clockid_t, const struct timespec *);
-    int (*rwlock_unlock)(pthread_rwlock_t *);
-    int (*spin_init)(pthread_spinlock_t *, int);
-    int (*spin_destroy)(pthread_spinlock_t *);
-    int (*spin_lock)(pthread_spinlock_t *);
-    int (*spin_trylock)(pthread_spinlock_t *);
-    int (*spin_unlock)(pthread_spinlock_t *);
-    int (*cond_wait)(pthread_cond_t *, pthread_mutex_t *);
-    int (*cond_timedwait)(pthread_cond_t *, pthread_mutex_t *, const struct timespec *);
-    int (*cond_clockwait)(pthread_cond_t *, pthread_mutex_t *, clockid_t, const struct timespec *);
-    int (*c11_init)(mtx_t *, int);
-    int (*sem_init)(sem_t *, int, unsigned);
-    int (*sem_destroy)(sem_t *);
-    int (*sem_wait)(sem_t *);
-    int (*sem_trywait)(sem_t *);
-    int (*sem_timedwait)(sem_t *, const struct timespec *);
-    int (*sem_clockwait)(sem_t *, clockid_t, const struct timespec *);
-    int (*sem_post)(sem_t *);
-    int (*create)(pthread_t *, const pthread_attr_t *, void *(*)(void *), void *);
-    int (*c11_create)(thrd_t *, thrd_start_t, void *);
-    int (*join)(pthread_t, void **);
-    int (*c11_join)(thrd_t, int *);
-    int (*dlclose)(void *);
-    void *(*dlopen)(const char *, int);
-    void *(*dlmopen)(long, const char *, int);
-    int (*system)(const char *);
-    FILE *(*popen)(const char *, const char *);
-    int (*execve)(const char *, char *const[], char *const[]);
-    int (*execvpe)(const char *, char *const[], char *const[]);
-    int (*fexecve)(int, char *const[], char *const[]);
-    int (*execveat)(int, const char *, char *const[], char *const[], int);
-    int (*spawn)(pid_t *, const char *, const posix_spawn_file_actions_t *, const posix_spawnattr_t *, char *const[],
-        char *const[]);
-    int (*spawnp)(pid_t *, const char *, const posix_spawn_file_actions_t *, const posix_spawnattr_t *, char *const[],
-        char *const[]);
-    int (*sigaction)(int, const struct sigaction *, struct sigaction *);
-    handler *(*signal)(int, handler *);
-    handler *(*sysv_signal)(int, handler *);
-    handler *(*sigset)(int, handler *);
-    int (*sigaltstack)(const stack_t *, stack_t *);
-    void (*free)(void *);
-    int (*register_atfork)(void (*)(void), void (*)(void), void (*)(void), void *);
-    int (*mlockall)(int);
+    EACH_REAL(MEMBER_OF)
 };
+#pragma GCC diagnostic pop
 /* The stack pointer of the function's caller. */
 #define HERE ((uintptr_t)__builtin_frame_address(0) + 16)
 #define EXPORT __attribute__((visibility("default")))
@@ -385,6 +400,10 @@ extern _Atomic bool has_small_stacks; /* and one that has a stack of its own */
 void aside(void (*function)(void *), void *argument);
 bool is_aside(uintptr_t stack); /* whether this thread's own stack has the address */
 void aside_forked(void);
+/* Signals of faults come as they do without the recorder: the program may see to memory of its own by them. */
+#define SIGNAL_BIT(number) ((uint64_t)1 << ((number)-1))
+#define FAULTS (SIGNAL_BIT(SIGSEGV) | SIGNAL_BIT(SIGBUS) | SIGNAL_BIT(SIGFPE) | SIGNAL_BIT(SIGILL) | SIGNAL_BIT(SIGTRAP))
+void change_signals(int how, uint64_t wanted, uint64_t *before); /* which signals wait, as sigprocmask does */
 
 /* Nothing is recorded, and may never be: calls are passed on at once. */
 extern _Atomic bool asleep;
@@ -401,6 +420,32 @@ bool thread_opens(struct thread *thread, uintptr_t stack);
 bool goes_far_inside(uintptr_t stack);
 bool recorder_enters(void);
 void recorder_leaves(void);
+static inline void leaves_again(const bool *entered)
+{
+    if (*entered)
+        recorder_leaves();
+}
+
+static inline void goes_out_again(const bool *inside)
+{
+    atomic_signal_fence(memory_order_seq_cst);
+    if (*inside)
+        self.state = OPEN;
+}
+
+/*
+ * To the end of the block the thread holds the mutex; or it is inside the recorder, and its calls aren't recorded. Where
+ * that can't be, OTHERWISE comes.
+ */
+#define ENTERS_OR(otherwise)                                                                                           \
+    __attribute__((cleanup(leaves_again), unused)) bool entered = recorder_enters();                                   \
+    if (!entered)                                                                                                      \
+    otherwise
+#define GOES_INSIDE_OR(stack, otherwise)                                                                               \
+    __attribute__((cleanup(goes_out_again), unused)) bool inside = goes_far_inside(stack);                             \
+    if (!inside)                                                                                                       \
+    otherwise
+
 void *table(size_t bytes);
 void table_goes(void *memory, size_t bytes);
 
@@ -463,8 +508,11 @@ static inline struct lock *lock_at(const void *address)
 }
 
 struct lock *lock_met(const void *address, enum class class, struct caller caller);
-void lock_made(const void *address, enum class class, struct caller caller);
 void lock_made_as(const void *address, enum class class, struct caller caller, const char *type);
+static inline void lock_made(const void *address, enum class class, struct caller caller)
+{
+    lock_made_as(address, class, caller, NULL);
+}
 void lock_gone(const void *address);
 void locks_freed(const void *block);
 void library_closed(void);
@@ -595,9 +643,12 @@ uint32_t stack_of_held(uint32_t place, struct caller caller);
 void stack_stands(uint32_t number);
 
 /* asked.c */
-bool mutex_read(uintptr_t address, pthread_mutex_t *mutex); /* false where its memory is gone */
-int32_t mutex_holder(uintptr_t address);
-int32_t rwlock_writer(uintptr_t address);
+bool lock_read(const struct lock *lock, void *to, size_t bytes); /* false where its memory is gone */
+/*
+ * The thread that a mutex or a rwlock itself names as its holder, as the kernel counts threads; 0 where it names none,
+ * or can't be read. A reader isn't named.
+ */
+int32_t lock_holder(const struct lock *lock);
 void answer(struct thread *thread);
 
 /* annotations.c */
@@ -659,10 +710,10 @@ bool seat_found(struct thread *thread); /* as seat_taken, where it needn't have 
 void seat_given_back(struct thread *thread);
 uint32_t lock_number(struct thread *thread, struct lock *lock);
 uint32_t lock_number_for_pair(struct thread *thread, struct lock *lock);
-uint32_t type_number_for_pair(struct type *type); /* 0 where there is no room for it */
+uint32_t type_numbered(struct type *type); /* its number in the stream, 0 where there is no room for it */
 bool type_fits(struct type *type);
-void number_stands(uint32_t number);
-void number_stands_no_more(uint32_t number);
+void number_stands(struct thread *thread, uint32_t number);
+void number_stands_no_more(struct thread *thread, uint32_t number);
 /* Whether the stream has the lock held or asked for, but for an own acquisition. */
 bool number_has_others(struct lock *lock, uint32_t own);
 uint32_t place_number(uint32_t place);
@@ -676,15 +727,22 @@ void write_acquired(struct request *request, struct held *held);
 void write_given_up(struct request *request);
 void write_left(struct thread *thread);
 void write_unlock(struct thread *thread, struct held *held);
-void write_waits_for_itself(struct request *request);
+void write_waits_again(struct request *request);
 void write_goes_on(const struct request *request);
-void write_owner(const struct thread *thread, uint32_t lock, int32_t owner); /* under the mutex */
-void write_waits_behind(struct request *request);
 void write_released_by_another(struct thread *thread, struct lock *lock, uint32_t place);
-void write_error(struct thread *thread, enum lock_error error, struct lock *lock, uint32_t place); /* inside */
-void write_life(struct thread *thread); /* inside, as the next one */
-void write_joined(uint32_t joined, uint32_t at);
-bool stream_has_room(void);
+/* To the end of the block the thread has a seat. Where the stream has no room, or there is no seat, OTHERWISE comes. */
+#define SEATED_OR(sitter, otherwise)                                                                                   \
+    __attribute__((cleanup(seat_goes_again))) struct thread *seated                                                    \
+        = stream_has_room() && seat_taken(sitter) ? (sitter) : NULL;                                                   \
+    if (!seated)                                                                                                       \
+    otherwise
+
+static inline void seat_goes_again(struct thread *const *seated)
+{
+    if (*seated)
+        seat_given_back(*seated);
+}
+
 void write_thread(const struct thread *thread);
 void write_place(uint32_t place);
 void write_type(struct type *type);
@@ -699,17 +757,20 @@ void write_init(struct thread *thread, struct lock *lock);
 size_t word_escaped(const char *word, char *to, size_t room);
 
 /* stream.c */
-void put_text(const char *text);
-void put_number(uint64_t number);      /* behind a space, as the next two */
-void put_hexadecimal(uint64_t number);
-void put_word(const char *word); /* as words.c has it; NO_NAME for an empty one */
-void stream_append(bool is_entry);
+/*
+ * Puts words to the line: of printf's, %u and %lu stand for numbers, %lx for one in hexadecimal digits, %c for a byte,
+ * and %s for a word as words.c has it, NO_NAME for an empty one.
+ */
+void line_put(const char *words, ...) __attribute__((format(printf, 1, 2)));
+void stream_append(bool is_entry); /* the line, which ends with this */
+void write_line(const char *words, ...) __attribute__((format(printf, 1, 2))); /* which is no entry of the verifier's log */
+uint64_t milliseconds(void); /* by the clock that only goes on */
 bool stream_opens(void);
-uint64_t stream_time(void); /* in milliseconds since the process, or the fork, began */
+bool stream_has_room(void);
+extern uint64_t stream_made_at; /* when the process, or the fork, began, in milliseconds */
 bool stream_is_asked(void);
 void stream_is_answered(void);
 bool stream_has_file(void); /* else their lines are judged alone */
-uint32_t stream_entries(void);
 void count_missed(enum missed what);
 void count_missed_outside(enum missed what);
 bool stream_made(void);
@@ -727,9 +788,11 @@ bool is_readable(const void *address);
 bool is_all_readable(const void *from, size_t bytes);
 
 /* status.c */
+int status_file(const char *name, int how, mode_t mode); /* in the folder of the streams; negative where it can't be opened */
+bool file_may_have(uint64_t size); /* a file that grows over a limit ends the program */
 void status_made(void);
+void status_begins(void); /* this process takes its slot, as one that has the recorder */
 void status_lacks_memory(void); /* the recorder stays off in this process */
-void status_forked(void);
 void status_starts(const char *program); /* its name, without folders */
 void status_starts_not(void);
 void status_started(pid_t process, const char *program);

@@ -13,13 +13,6 @@
 /* In milliseconds; and how often a thread's requests come to linger at most: each time is some lines. */
 enum { A_SECOND = 1000, TIMES_MOST = 64 };
 
-static int64_t now(void)
-{
-    struct timespec time;
-    clock_gettime(CLOCK_MONOTONIC, &time);
-    return (int64_t)time.tv_sec * 1000 + time.tv_nsec / 1000000;
-}
-
 static uint64_t locks_of(const struct request *request)
 {
     return locks_with(locks_held(request->thread), request->lock, request->mode);
@@ -42,7 +35,7 @@ bool repeat_counts(struct request *request)
     bool counts = request->timed && !request->again && repeated->locks && is_the_same(request);
     if (repeated->lingers && !counts)
         repeat_ends(request->thread);
-    if (!counts || (!repeated->lingers && (repeated->times == TIMES_MOST || now() - repeated->since < A_SECOND)))
+    if (!counts || (!repeated->lingers && (repeated->times == TIMES_MOST || milliseconds() - repeated->since < A_SECOND)))
         return false;
     repeated->times += !repeated->lingers;
     request->timed = false;
@@ -59,7 +52,7 @@ void repeat_noted(const struct request *request)
     struct thread *thread = request->thread;
     struct repeated *repeated = &thread->repeated;
     if (!is_the_same(request))
-        *repeated = (struct repeated){locks_of(request), request->place, false, repeated->times, now()};
+        *repeated = (struct repeated){locks_of(request), request->place, false, repeated->times, milliseconds()};
     repeated->lingers = request->pending != 0;
     for (uint32_t i = 0; i < thread->count; i++)
         thread->held[i].written |= KEPT_ON;

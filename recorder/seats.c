@@ -12,7 +12,7 @@
 
 /* Who had each seat last, and is named for it. */
 static const struct thread *sitters[SEATS + 1];
-static uint64_t seats_lent[SEATS / 64];
+static bool seats_lent[SEATS + 1];
 static uint32_t seats_begun; /* that a thread has had */
 static bool are_lent;        /* there were more threads than seats */
 static uint32_t types_numbered;
@@ -29,27 +29,15 @@ uint32_t *mark(struct marks *marks)
     return &marks->number;
 }
 
-static bool is_lent(uint32_t seat)
-{
-    return seats_lent[(seat - 1) / 64] >> (seat - 1) % 64 & 1;
-}
-
-/* `lent`: from here on a seat may be another thread's than the one that its last line `thread` tells of. */
-static void write_lent(void)
-{
-    put_text(WORD_LENT "\n");
-    stream_append(false);
-}
-
 /* A seat for the thread: the one that it had, one that nobody has had, or one that is free now. More than SEATS for none. */
 static uint32_t seat_for(const struct thread *thread)
 {
     uint32_t seat = thread->last_seat;
-    if (seat != 0 && !is_lent(seat))
+    if (seat != 0 && !seats_lent[seat])
         return seat;
     if (seats_begun < SEATS)
         return ++seats_begun;
-    for (seat = 1; seat <= SEATS && is_lent(seat); seat++)
+    for (seat = 1; seat <= SEATS && seats_lent[seat]; seat++)
         ;
     return seat;
 }
@@ -62,11 +50,12 @@ bool seat_found(struct thread *thread)
     if (seat > SEATS)
         return false;
     bool is_named = sitters[seat] == thread && thread->last_seat == seat;
+    /* From here on a seat may be another thread's than the one that its last line `thread` tells of. */
     if (!is_named && sitters[seat] && !are_lent) {
         are_lent = true;
-        write_lent();
+        write_line(WORD_LENT);
     }
-    seats_lent[(seat - 1) / 64] |= (uint64_t)1 << (seat - 1) % 64;
+    seats_lent[seat] = true;
     thread->seat = thread->last_seat = seat;
     sitters[seat] = thread;
     if (!is_named)
@@ -85,37 +74,29 @@ bool seat_taken(struct thread *thread)
 /* Gives the seat back where nothing of the thread stands in the stream any longer. */
 void seat_given_back(struct thread *thread)
 {
-    uint32_t seat = thread->seat;
-    if (seat == 0 || thread->written != 0)
+    if (thread->written != 0)
         return;
-    seats_lent[(seat - 1) / 64] &= ~((uint64_t)1 << (seat - 1) % 64);
+    seats_lent[thread->seat] = false;
     thread->seat = 0;
-}
-
-static bool type_is_numbered(struct type *type)
-{
-    uint32_t *number = mark(&type->marks);
-    if (*number == 0) {
-        if (types_numbered == TYPES) {
-            count_missed(MISSED_TYPES);
-            *number = NUMBER_NONE;
-        } else {
-            *number = ++types_numbered;
-            write_type(type);
-        }
-    }
-    return *number != NUMBER_NONE;
-}
-
-uint32_t type_number_for_pair(struct type *type)
-{
-    return type_is_numbered(type) ? *mark(&type->marks) : 0;
 }
 
 /* False of a type that was met when the stream had room for no further one. */
 bool type_fits(struct type *type)
 {
     return *mark(&type->marks) != NUMBER_NONE;
+}
+
+uint32_t type_numbered(struct type *type)
+{
+    uint32_t *number = mark(&type->marks);
+    if (*number == 0 && types_numbered == TYPES) {
+        count_missed(MISSED_TYPES);
+        *number = NUMBER_NONE;
+    } else if (*number == 0) {
+        *number = ++types_numbered;
+        write_type(type);
+    }
+    return type_fits(type) ? *number : 0;
 }
 
 /*
@@ -127,7 +108,7 @@ uint32_t lock_number(struct thread *thread, struct lock *lock)
     uint32_t *number = mark(&lock->marks);
     uint32_t *named = mark(&lock->name->marks);
     if (*number == 0) {
-        if (!type_is_numbered(lock->type)) {
+        if (!type_numbered(lock->type)) {
             *number = NUMBER_NONE;
         } else if (*named != 0 && holders[*named] == 0) {
             *number = *named;
@@ -151,15 +132,18 @@ uint32_t lock_number_for_pair(struct thread *thread, struct lock *lock)
     return number == NUMBER_NONE ? 0 : number;
 }
 
-/* The stream has the lock of that number held, or asked for. */
-void number_stands(uint32_t number)
+/* The stream has the lock of that number held or asked for by the thread. */
+void number_stands(struct thread *thread, uint32_t number)
 {
+    thread->written++;
     holders[number]++;
 }
 
-void number_stands_no_more(uint32_t number)
+void number_stands_no_more(struct thread *thread, uint32_t number)
 {
+    thread->written--;
     holders[number]--;
+    seat_given_back(thread);
 }
 
 bool number_has_others(struct lock *lock, uint32_t own)

@@ -3,9 +3,7 @@
  * on. It counts as a lock as long as each thread that posts it is the one that has waited for it, and no thread waits for
  * what it has. Once that isn't so it is left alone, as all others are; its record stays, since others may wait for it.
  */
-#include "quick.h"
-
-#include <errno.h>
+#include "ways.h"
 
 bool semaphores_are_locks;
 
@@ -29,11 +27,11 @@ static void leave_alone(struct lock *lock)
 static COLD void note_unseen(uintptr_t stack)
 {
     static _Atomic bool noted;
-    if (atomic_load_explicit(&noted, memory_order_relaxed) || !goes_far_inside(stack))
+    if (atomic_load_explicit(&noted, memory_order_relaxed))
         return;
+    GOES_INSIDE_OR(stack, return);
     atomic_store(&noted, true);
     status_semaphores();
-    goes_outside(&self);
 }
 
 static bool begins(struct request *request, sem_t *semaphore, enum asking asking, struct caller caller)
@@ -58,18 +56,18 @@ static int ends(struct request *request, sem_t *semaphore, int answer)
     return answer;
 }
 
-/* As a lock's call does: a request that isn't written yet waits for a second first. */
-static int wait_patiently(struct request *request, sem_t *semaphore)
+/* As a lock's call does: a request that isn't written yet waits for a second first, or in a steered run for less. */
+static int wait_a_second(struct request *request, sem_t *semaphore)
 {
-    struct timespec limit;
     if (real.sem_trywait(semaphore) == 0)
         return 0;
-    clock_gettime(CLOCK_REALTIME, &limit);
-    limit.tv_sec++;
+    struct timespec limit = time_from_now(steers ? STEERED_PATIENCE : PATIENCE);
     int answer = real.sem_timedwait(semaphore, &limit);
     if (answer == 0 || errno != ETIMEDOUT)
         return answer;
     request_waits(request);
+    if (UNLIKELY(steers))
+        steer_waits(request);
     return real.sem_wait(semaphore);
 }
 
@@ -97,33 +95,23 @@ EXPORT int sem_wait(sem_t *semaphore)
     struct request request;
     if (!begins(&request, semaphore, ASKS, CALLER))
         return real.sem_wait(semaphore);
-    int answer = request.patient ? wait_patiently(&request, semaphore) : real.sem_wait(semaphore);
+    int answer = request.patient ? wait_a_second(&request, semaphore) : real.sem_wait(semaphore);
     return ends(&request, semaphore, answer);
 }
 
-EXPORT int sem_trywait(sem_t *semaphore)
-{
-    struct request request;
-    bool begun = begins(&request, semaphore, TRIES, CALLER);
-    int answer = real.sem_trywait(semaphore);
-    return begun ? ends(&request, semaphore, answer) : answer;
-}
-
-EXPORT int sem_timedwait(sem_t *restrict semaphore, const struct timespec *restrict limit)
-{
-    struct request request;
-    bool begun = begins(&request, semaphore, ASKS_FOR_A_TIME, CALLER);
-    int answer = real.sem_timedwait(semaphore, limit);
-    return begun ? ends(&request, semaphore, answer) : answer;
-}
-
-EXPORT int sem_clockwait(sem_t *restrict semaphore, clockid_t clock, const struct timespec *restrict limit)
-{
-    struct request request;
-    bool begun = begins(&request, semaphore, ASKS_FOR_A_TIME, CALLER);
-    int answer = real.sem_clockwait(semaphore, clock, limit);
-    return begun ? ends(&request, semaphore, answer) : answer;
-}
+/* The calls that don't wait for good. */
+#define WAITS_BRIEFLY(name, asking, real_call, ...)                                                                    \
+    EXPORT int name(sem_t *semaphore, ##__VA_ARGS__)                                                                   \
+    {                                                                                                                  \
+        struct request request;                                                                                        \
+        bool begun = begins(&request, semaphore, asking, CALLER);                                                      \
+        int answer = real.real_call;                                                                                   \
+        return begun ? ends(&request, semaphore, answer) : answer;                                                     \
+    }
+WAITS_BRIEFLY(sem_trywait, TRIES, sem_trywait(semaphore))
+WAITS_BRIEFLY(sem_timedwait, ASKS_FOR_A_TIME, sem_timedwait(semaphore, limit), const struct timespec *limit)
+WAITS_BRIEFLY(sem_clockwait, ASKS_FOR_A_TIME, sem_clockwait(semaphore, clock, limit), clockid_t clock,
+    const struct timespec *limit)
 
 EXPORT int sem_post(sem_t *semaphore)
 {

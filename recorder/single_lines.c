@@ -3,17 +3,19 @@
  */
 #include "single_pairs.h"
 
-#include <sys/syscall.h>
-#include <unistd.h>
+/* Behind what stands there. */
+static void put_letters(const char *letters)
+{
+    if (*letters)
+        line_put("%s", letters);
+}
 
 /* A lock in one of its roles: what stands for its mode, and a letter for each thing that is told of it. */
 static void put_lock(struct thread *thread, struct lock *lock, bool is_shared, const char *how)
 {
-    put_number(lock_number_for_pair(thread, lock));
-    put_number(lock->serial);
-    put_number(type_number_for_pair(lock->type));
-    put_text(is_shared ? " s" : " x");
-    put_text(how);
+    line_put(" %u %u %u %c", lock_number_for_pair(thread, lock), lock->serial, type_numbered(lock->type),
+        is_shared ? 's' : 'x');
+    put_letters(how);
 }
 
 static const struct held *held_by_serial(const struct thread *thread, uint32_t beside)
@@ -27,7 +29,7 @@ static const struct held *held_by_serial(const struct thread *thread, uint32_t b
 /* What a line names is declared before it. */
 static void declare(struct thread *thread, struct lock *lock)
 {
-    type_number_for_pair(lock->type);
+    type_numbered(lock->type);
     lock_number_for_pair(thread, lock);
 }
 
@@ -35,22 +37,18 @@ static void put_pair(const struct request *request, const struct held *held, con
     bool again)
 {
     struct thread *thread = request->thread;
-    put_text(WORD_PAIR);
-    put_number(thread->seat);
-    put_number((uint64_t)syscall(SYS_gettid));
-    put_number(atomic_load(&threads_made_and_joined));
+    line_put(WORD_PAIR " %u %u %u", thread->seat, (uint32_t)gettid(), atomic_load(&threads_made_and_joined));
     put_lock(thread, held->lock, held->mode == SHARED, held->tried ? "t" : "");
-    put_text(is_acquired_under(held, request->lock) ? "u" : "");
+    put_letters(is_acquired_under(held, request->lock) ? "u" : "");
     put_lock(thread, request->lock, request->mode == SHARED,
         request->ends_wait ? "w" : request->repeats ? "p" : request->timed ? "l" : "");
-    put_text(again ? "r" : "");
-    put_text(pair->thread[1] & MORE_THREADS ? "m" : "");
+    put_letters(again ? "r" : "");
+    put_letters(pair->thread[1] & MORE_THREADS ? "m" : "");
     for (uint32_t i = 0; i < BESIDES; i++) {
         uint32_t beside = atomic_load_explicit(&pair->beside[i], memory_order_relaxed);
         if (beside != 0)
             put_lock(thread, held_by_serial(thread, beside)->lock, beside & BESIDE_SHARED, "");
     }
-    put_text("\n");
     stream_append(false);
 }
 
@@ -72,8 +70,6 @@ void write_pair(const struct request *request, const struct held *held, const st
 
 void write_no_more_pairs(void)
 {
-    if (!stream_has_room())
-        return;
-    put_text(WORD_MANY " 0\n");
-    stream_append(false);
+    if (stream_has_room())
+        write_line(WORD_MANY " 0");
 }

@@ -25,7 +25,6 @@
 #include "quick.h"
 #include "single_pairs.h"
 
-#include <sys/mman.h>
 
 enum { SLOTS_FIRST = 1 << 11, SLOTS_MOST = 1 << 21, WIDER = 4, PAIRS_MOST = 1000000 };
 
@@ -206,11 +205,9 @@ static void note_pair(const struct request *request, uint32_t at)
 static COLD void note_all(void *argument)
 {
     const struct request *request = argument;
-    if (!recorder_enters())
-        return;
+    ENTERS_OR(return);
     for (uint32_t i = 0; i < request->thread->count; i++)
         note_pair(request, i);
-    recorder_leaves();
 }
 
 void pairs_noted(struct request *request)
@@ -223,22 +220,16 @@ void pairs_noted(struct request *request)
         aside(note_all, request);
 }
 
-/* A pair by which a held lock was acquired under the lock that is asked for says less than one by which it wasn't. */
-static bool is_any_under(const struct thread *thread, const struct lock *lock)
-{
-    for (uint32_t i = 0; i < thread->count; i++)
-        if (is_acquired_under(&thread->held[i], lock))
-            return true;
-    return false;
-}
-
 __attribute__((noinline)) bool request_is_known(struct thread *thread, const struct lock *lock, enum mode mode,
     uint64_t locks)
 {
     if (held_of(thread, lock) || !chain_is_told(thread, lock->type)
         || !single_pairs_are_known(thread, lock, mode, ASKED_PLAINLY))
         return false;
-    if (!is_any_under(thread, lock))
-        remember(thread, locks);
+    /* A pair by which a held lock was acquired under the lock that is asked for says less than one by which it wasn't. */
+    for (uint32_t i = 0; i < thread->count; i++)
+        if (is_acquired_under(&thread->held[i], lock))
+            return true;
+    remember(thread, locks);
     return true;
 }

@@ -5,7 +5,6 @@
 #include "quick.h"
 
 #include <sys/syscall.h>
-#include <unistd.h>
 
 /* Threads whose end is told of, if they are joined. */
 enum { LIVES = 256 };
@@ -29,16 +28,24 @@ void singles_forked(void)
     self.maker = self.grand = 0;
 }
 
-/* Before the first pair of a thread. */
+static void write_life(uint32_t thread, uint32_t maker, uint32_t made_at)
+{
+    if (stream_has_room())
+        write_line(WORD_LIFE " %u %u %u", thread, maker, made_at);
+}
+
+/* Before the first pair of a thread: its line, and its maker's, which may have no order of its own. */
 void life_begins(struct thread *thread)
 {
     if (thread->has_pairs)
         return;
     thread->has_pairs = true;
-    write_life(thread);
+    write_life((uint32_t)gettid(), thread->maker, thread->made_at);
+    if (thread->grand != 0)
+        write_life(thread->maker, thread->grand, thread->maker_at);
     for (uint32_t i = 0; i < LIVES; i++) {
         if (lives[i].thread == 0) {
-            lives[i] = (struct life){pthread_self(), (uint32_t)syscall(SYS_gettid), atomic_fetch_add(&lives_begun, 1),
+            lives[i] = (struct life){pthread_self(), (uint32_t)gettid(), atomic_fetch_add(&lives_begun, 1),
                 thread->maker ? thread->made_at : UINT32_MAX};
             atomic_fetch_add(&lives_kept, 1);
             return;
@@ -71,23 +78,22 @@ struct joined {
 static void end_lives(void *argument)
 {
     const struct joined *it = argument;
-    if (!recorder_enters())
-        return;
+    ENTERS_OR(return);
     for (uint32_t i = 0; i < LIVES; i++) {
-        if (is_joined(&lives[i], &it->joining)) {
-            write_joined(lives[i].thread, it->at);
-            lives[i].thread = 0;
-            atomic_fetch_sub(&lives_kept, 1);
-        }
+        if (!is_joined(&lives[i], &it->joining))
+            continue;
+        if (stream_has_room())
+            write_line(WORD_JOINED " %u %u %u", lives[i].thread, (uint32_t)gettid(), it->at);
+        lives[i].thread = 0;
+        atomic_fetch_sub(&lives_kept, 1);
     }
-    recorder_leaves();
 }
 
 void order_of_joined(struct joining joining)
 {
     struct joined it = {joining, atomic_fetch_add(&threads_made_and_joined, 1)};
-    if (LIKELY(atomic_load(&lives_kept) == 0) || !goes_far_inside(HERE))
+    if (LIKELY(atomic_load(&lives_kept) == 0))
         return;
+    GOES_INSIDE_OR(HERE, return);
     aside(end_lives, &it);
-    goes_outside(&self);
 }

@@ -114,14 +114,11 @@ EXPORT unsigned witness_recorder_place(const char *path, unsigned line, const ch
         line = LINES_MOST;
     uint32_t in = word_met(file), by = word_met(function);
     uint32_t number = in && by ? place_at_pc(site_pc(in, line, by)) : 0;
-    if (number || !goes_far_inside(HERE))
+    if (number)
         return number;
-    if (recorder_enters()) {
-        number = site_made(file, line, function);
-        recorder_leaves();
-    }
-    goes_outside(&self);
-    return number;
+    GOES_INSIDE_OR(HERE, return 0);
+    ENTERS_OR(return 0);
+    return site_made(file, line, function);
 }
 
 static bool is_number(unsigned number)

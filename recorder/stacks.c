@@ -49,7 +49,7 @@ static uint32_t slot_of(const uint32_t *found, uint32_t count)
 /* As stack_of; *is_new becomes true where the stack wasn't there before. */
 static uint32_t stack_found(struct caller caller, bool *is_new)
 {
-    uint32_t found[FRAMES_MOST], number = 0;
+    uint32_t found[FRAMES_MOST];
     if (!stacks || caller.pc == 0)
         return 0;
     uint32_t count = callers(caller, frames_shown, found);
@@ -58,20 +58,17 @@ static uint32_t stack_found(struct caller caller, bool *is_new)
     uint32_t slot = slot_of(found, count);
     if (atomic_load(&stacks[slot].count) != 0)
         return slot + 1;
-    if (!recorder_enters())
-        return 0;
+    ENTERS_OR(return 0);
     slot = slot_of(found, count);
-    if (stacks[slot].count != 0) {
-        number = slot + 1;
-    } else if (stacks_met < STACKS / 4 * 3) {
-        stacks_met++;
-        memcpy(stacks[slot].places, found, count * sizeof *found);
-        atomic_store_explicit(&stacks[slot].count, count, memory_order_release);
-        number = slot + 1;
-        *is_new = true;
-    }
-    recorder_leaves();
-    return number;
+    if (stacks[slot].count != 0)
+        return slot + 1;
+    if (stacks_met >= STACKS / 4 * 3)
+        return 0;
+    stacks_met++;
+    memcpy(stacks[slot].places, found, count * sizeof *found);
+    atomic_store_explicit(&stacks[slot].count, count, memory_order_release);
+    *is_new = true;
+    return slot + 1;
 }
 
 /* The number of the callers' stack; 0 where none is wanted, or there is no room. No mutex is held. */
@@ -108,10 +105,8 @@ void stack_stands(uint32_t number)
     *written = 1;
     for (uint32_t i = 0; i < stack->count; i++)
         place_number(stack->places[i]);
-    put_text(WORD_STACK);
-    put_number(number);
+    line_put(WORD_STACK " %u", number);
     for (uint32_t i = 0; i < stack->count; i++)
-        put_number(stack->places[i]);
-    put_text("\n");
+        line_put(" %u", stack->places[i]);
     stream_append(false);
 }

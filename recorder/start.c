@@ -8,14 +8,9 @@
 #include "judge.h"
 #include "steer.h"
 
-#include <dlfcn.h>
 #include <errno.h>
 #include <fcntl.h>
-#include <stdio.h>
-#include <stdlib.h>
 #include <string.h>
-#include <sys/mman.h>
-#include <unistd.h>
 
 struct real real;
 __thread struct thread self __attribute__((tls_model("initial-exec")));
@@ -28,78 +23,16 @@ bool watches_free;
 _Atomic bool has_handlers;
 _Atomic bool asleep;
 
-static const struct {
-    size_t offset;
-    const char *name;
-    const char *version; /* where an object has several: the one that programs of today are linked to */
-} functions[] = {
-    {offsetof(struct real, register_atfork), "__register_atfork", NULL},
-    {offsetof(struct real, mutex_lock), "pthread_mutex_lock", NULL},
-    {offsetof(struct real, mutex_trylock), "pthread_mutex_trylock", NULL},
-    {offsetof(struct real, mutex_unlock), "pthread_mutex_unlock", NULL},
-    {offsetof(struct real, free), "free", NULL},
-    {offsetof(struct real, mutex_init), "pthread_mutex_init", NULL},
-    {offsetof(struct real, mutex_destroy), "pthread_mutex_destroy", NULL},
-    {offsetof(struct real, mutex_timedlock), "pthread_mutex_timedlock", NULL},
-    {offsetof(struct real, mutex_clocklock), "pthread_mutex_clocklock", NULL},
-    {offsetof(struct real, rwlock_init), "pthread_rwlock_init", NULL},
-    {offsetof(struct real, rwlock_destroy), "pthread_rwlock_destroy", NULL},
-    {offsetof(struct real, rwlock_rdlock), "pthread_rwlock_rdlock", NULL},
-    {offsetof(struct real, rwlock_tryrdlock), "pthread_rwlock_tryrdlock", NULL},
-    {offsetof(struct real, rwlock_timedrdlock), "pthread_rwlock_timedrdlock", NULL},
-    {offsetof(struct real, rwlock_clockrdlock), "pthread_rwlock_clockrdlock", NULL},
-    {offsetof(struct real, rwlock_wrlock), "pthread_rwlock_wrlock", NULL},
-    {offsetof(struct real, rwlock_trywrlock), "pthread_rwlock_trywrlock", NULL},
-    {offsetof(struct real, rwlock_timedwrlock), "pthread_rwlock_timedwrlock", NULL},
-    {offsetof(struct real, rwlock_clockwrlock), "pthread_rwlock_clockwrlock", NULL},
-    {offsetof(struct real, rwlock_unlock), "pthread_rwlock_unlock", NULL},
-    {offsetof(struct real, spin_init), "pthread_spin_init", NULL},
-    {offsetof(struct real, spin_destroy), "pthread_spin_destroy", NULL},
-    {offsetof(struct real, spin_lock), "pthread_spin_lock", NULL},
-    {offsetof(struct real, spin_trylock), "pthread_spin_trylock", NULL},
-    {offsetof(struct real, spin_unlock), "pthread_spin_unlock", NULL},
-    {offsetof(struct real, cond_wait), "pthread_cond_wait", "GLIBC_2.3.2"},
-    {offsetof(struct real, cond_timedwait), "pthread_cond_timedwait", "GLIBC_2.3.2"},
-    {offsetof(struct real, cond_clockwait), "pthread_cond_clockwait", NULL},
-    {offsetof(struct real, c11_init), "mtx_init", NULL},
-    {offsetof(struct real, sem_init), "sem_init", NULL},
-    {offsetof(struct real, sem_destroy), "sem_destroy", NULL},
-    {offsetof(struct real, sem_wait), "sem_wait", NULL},
-    {offsetof(struct real, sem_trywait), "sem_trywait", NULL},
-    {offsetof(struct real, sem_timedwait), "sem_timedwait", NULL},
-    {offsetof(struct real, sem_clockwait), "sem_clockwait", NULL},
-    {offsetof(struct real, sem_post), "sem_post", NULL},
-    {offsetof(struct real, create), "pthread_create", NULL},
-    {offsetof(struct real, c11_create), "thrd_create", NULL},
-    {offsetof(struct real, join), "pthread_join", NULL},
-    {offsetof(struct real, c11_join), "thrd_join", NULL},
-    {offsetof(struct real, dlclose), "dlclose", NULL},
-    {offsetof(struct real, dlopen), "dlopen", NULL},
-    {offsetof(struct real, dlmopen), "dlmopen", NULL},
-    {offsetof(struct real, system), "system", NULL},
-    {offsetof(struct real, popen), "popen", NULL},
-    {offsetof(struct real, execve), "execve", NULL},
-    {offsetof(struct real, execvpe), "execvpe", NULL},
-    {offsetof(struct real, fexecve), "fexecve", NULL},
-    {offsetof(struct real, execveat), "execveat", NULL},
-    {offsetof(struct real, spawn), "posix_spawn", "GLIBC_2.15"},
-    {offsetof(struct real, spawnp), "posix_spawnp", "GLIBC_2.15"},
-    {offsetof(struct real, sigaction), "sigaction", NULL},
-    {offsetof(struct real, signal), "signal", NULL},
-    {offsetof(struct real, sysv_signal), "__sysv_signal", NULL},
-    {offsetof(struct real, sigset), "sigset", NULL},
-    {offsetof(struct real, sigaltstack), "sigaltstack", NULL},
-    {offsetof(struct real, mlockall), "mlockall", NULL},
-};
-
 extern char *program_invocation_short_name;
 static pthread_mutex_t mutex = PTHREAD_MUTEX_INITIALIZER;
 static _Atomic bool recording;
 /* Of the thread that is inside: what it had outside. Where it is aside, it isn't cancelled in any case. */
 enum { CANCELLATION_KEPT = -1 };
-static int errno_outside, cancellation_outside;
-static sigset_t signals_outside;
-static bool signals_wait;
+static struct outside {
+    int error, cancellation;
+    bool signals_wait;
+    uint64_t signals;
+} outside;
 /* By its name the first of several recorders in a process is found; by the other name each finds itself. */
 EXPORT const char witness_recorder = 1;
 extern const char own_recorder __attribute__((alias("witness_recorder"), visibility("hidden")));
@@ -107,16 +40,18 @@ extern const char own_recorder __attribute__((alias("witness_recorder"), visibil
 static volatile char *alive;
 static __thread bool forks;
 
+static void find_real(void *real_function, const char *name, const char *version)
+{
+    void *found = version ? dlvsym(RTLD_NEXT, name, version) : NULL;
+    if (!found)
+        found = dlsym(RTLD_NEXT, name);
+    memcpy(real_function, &found, sizeof found);
+}
+
 static void find_real_functions(void)
 {
-    for (size_t i = 0; i < sizeof functions / sizeof *functions; i++) {
-        void *found = NULL;
-        if (functions[i].version)
-            found = dlvsym(RTLD_NEXT, functions[i].name, functions[i].version);
-        if (!found)
-            found = dlsym(RTLD_NEXT, functions[i].name);
-        memcpy((char *)&real + functions[i].offset, &found, sizeof found);
-    }
+#define FIND(function, version) find_real(&real.function, #function, version);
+    EACH_REAL(FIND)
 }
 
 /* Memory of zeros, of which only what is touched is taken. Without it the recorder stays off. */
@@ -187,24 +122,9 @@ static bool tables_made(void)
 /* Leaves a file by which record tells a program without nested requests from one that the recorder wasn't in. */
 static void say_started(void)
 {
-    char path[512];
-    const char *directory = secure_getenv("RECORDER_DIRECTORY");
-    if (directory && snprintf(path, sizeof path, "%s/started", directory) < (int)sizeof path) {
-        int file = open(path, O_WRONLY | O_CREAT | O_CLOEXEC, 0600);
-        if (file >= 0)
-            close(file);
-    }
-}
-
-/* Those of faults come as they do without the recorder: the program may see to memory of its own by them. */
-static sigset_t kept_out;
-
-static void choose_signals(void)
-{
-    static const int faults[] = {SIGSEGV, SIGBUS, SIGFPE, SIGILL, SIGTRAP};
-    sigfillset(&kept_out);
-    for (size_t i = 0; i < sizeof faults / sizeof *faults; i++)
-        sigdelset(&kept_out, faults[i]);
+    int file = status_file("started", O_WRONLY | O_CREAT | O_CLOEXEC, 0600);
+    if (file >= 0)
+        close(file);
 }
 
 /* Makes all that recording needs, where the environment or the program wants it, and begins. Once in a process. */
@@ -215,7 +135,6 @@ static void awake(void)
         return;
     /* The words that it was started by may be overwritten later. */
     snprintf(program_name, sizeof program_name, "%s", program_invocation_short_name);
-    choose_signals();
     own_object();
     status_made();
     if (!tables_made()) {
@@ -317,7 +236,7 @@ static void stops_in_child(void)
     atomic_store(&recording, false);
     if (atomic_exchange(&counted, true))
         return;
-    status_forked();
+    status_begins();
     count_failure(FAILED_FORKED);
 }
 
@@ -327,42 +246,32 @@ static void stops_in_child(void)
  */
 bool recorder_enters(void)
 {
-    int before = errno;
+    struct outside it = {.error = errno, .cancellation = CANCELLATION_KEPT};
     if (!*alive)
         stops_in_child();
     if (!atomic_load(&recording))
         return false;
-    int cancellation = CANCELLATION_KEPT;
-    sigset_t signals;
     bool is_apart = is_aside((uintptr_t)__builtin_frame_address(0));
-    bool wait = atomic_load_explicit(&has_handlers, memory_order_relaxed) && !(is_apart && self.keeps_signals);
-    if (wait)
-        pthread_sigmask(SIG_BLOCK, &kept_out, &signals);
+    it.signals_wait = atomic_load_explicit(&has_handlers, memory_order_relaxed) && !(is_apart && self.keeps_signals);
+    if (it.signals_wait)
+        change_signals(SIG_BLOCK, ~FAULTS, &it.signals);
     if (!is_apart)
-        pthread_setcancelstate(PTHREAD_CANCEL_DISABLE, &cancellation);
-    real.mutex_lock(&mutex);
-    errno_outside = before;
-    cancellation_outside = cancellation;
-    signals_wait = wait;
-    if (wait)
-        signals_outside = signals;
+        pthread_setcancelstate(PTHREAD_CANCEL_DISABLE, &it.cancellation);
+    real.pthread_mutex_lock(&mutex);
+    outside = it;
     return true;
 }
 
 void recorder_leaves(void)
 {
-    int before = errno_outside, cancellation = cancellation_outside;
-    sigset_t signals;
-    bool wait = signals_wait;
-    if (wait)
-        signals = signals_outside;
-    real.mutex_unlock(&mutex);
-    if (cancellation != CANCELLATION_KEPT)
-        pthread_setcancelstate(cancellation, NULL);
-    if (wait)
-        pthread_sigmask(SIG_SETMASK, &signals, NULL);
+    struct outside it = outside;
+    real.pthread_mutex_unlock(&mutex);
+    if (it.cancellation != CANCELLATION_KEPT)
+        pthread_setcancelstate(it.cancellation, NULL);
+    if (it.signals_wait)
+        change_signals(SIG_SETMASK, it.signals, NULL);
     judge_looks();
-    errno = before;
+    errno = it.error;
 }
 
 /*
@@ -384,7 +293,7 @@ static void begin_child(void *unused)
 {
     (void)unused;
     seats_forked();
-    status_forked();
+    status_begins();
     stream_forked();
     chains_forked();
     waiters_forked();
@@ -417,7 +326,7 @@ void fork_is_watched(void)
 {
     static _Atomic bool watched;
     if ((atomic_load(&recording) || judge_is_there()) && !atomic_exchange(&watched, true))
-        real.register_atfork(fork_begins, fork_ends_in_parent, fork_ends_in_child, NULL);
+        real.__register_atfork(fork_begins, fork_ends_in_parent, fork_ends_in_child, NULL);
 }
 
 /* That free and malloc_usable_size are of one object: else sizes can't be believed. */

@@ -11,12 +11,9 @@
 
 #include <fcntl.h>
 #include <stdio.h>
-#include <stdlib.h>
 #include <string.h>
-#include <sys/mman.h>
 #include <sys/resource.h>
 #include <sys/stat.h>
-#include <unistd.h>
 
 enum { SLOT_BYTES = 256, SLOTS = 3072, DIGITS = 10 };
 /*
@@ -36,18 +33,26 @@ static const char without_memory[] = " " STATUS_LOADED " " LOADED_WITHOUT_MEMORY
 static char *status;
 static char *counts[FAILURES]; /* where the process's line has each count; NULL where it has no line */
 
+int status_file(const char *name, int how, mode_t mode)
+{
+    char path[512];
+    const char *directory = secure_getenv("RECORDER_DIRECTORY");
+    bool fits = directory && snprintf(path, sizeof path, "%s/%s", directory, name) < (int)sizeof path;
+    return fits ? open(path, how, mode) : -1;
+}
+
+bool file_may_have(uint64_t size)
+{
+    struct rlimit limit;
+    return getrlimit(RLIMIT_FSIZE, &limit) != 0 || limit.rlim_cur == RLIM_INFINITY || size <= limit.rlim_cur;
+}
+
 /* The file is made by `record`; a recorder that runs by itself makes it here. */
 static bool has_size(int file)
 {
     struct stat found;
-    struct rlimit limit;
-    if (fstat(file, &found) != 0)
-        return false;
-    if (found.st_size >= STATUS_BYTES)
-        return true;
-    if (getrlimit(RLIMIT_FSIZE, &limit) == 0 && limit.rlim_cur != RLIM_INFINITY && limit.rlim_cur < STATUS_BYTES)
-        return false;
-    return posix_fallocate(file, 0, STATUS_BYTES) == 0;
+    return fstat(file, &found) == 0
+        && (found.st_size >= STATUS_BYTES || (file_may_have(STATUS_BYTES) && posix_fallocate(file, 0, STATUS_BYTES) == 0));
 }
 
 static void put_at(size_t at, const char *text, size_t length)
@@ -87,10 +92,7 @@ static char *slot_of(pid_t process)
 static void write_name(char *to, const char *word, const char *name)
 {
     char text[NAME_BYTES] = "";
-    size_t length = strlen(word);
-    memcpy(text, word, length);
-    if (*name == '\0')
-        text[length++] = '?';
+    size_t length = (size_t)sprintf(text, "%s%s", word, *name ? "" : "?");
     for (; *name && length < sizeof text; name++)
         text[length++] = *name <= ' ' || *name > '~' ? '_' : *name;
     memcpy(to, text, sizeof text);
@@ -110,8 +112,7 @@ static void take_counts(char *slot)
         memcpy(slot + COUNTS_AT, text, (size_t)length);
 }
 
-/* This process's slot, as one that has the recorder. */
-static void take_slot(void)
+void status_begins(void)
 {
     char *slot = slot_of(getpid());
     memset(counts, 0, sizeof counts);
@@ -124,40 +125,30 @@ static void take_slot(void)
 
 void status_made(void)
 {
-    char path[512];
-    const char *directory = secure_getenv("RECORDER_DIRECTORY");
-    if (!directory || snprintf(path, sizeof path, "%s/status", directory) >= (int)sizeof path)
+    int file = status_file("status", O_RDWR | O_CREAT | O_CLOEXEC, 0666);
+    void *mapped = MAP_FAILED;
+    if (file >= 0 && has_size(file))
+        mapped = mmap(NULL, STATUS_BYTES, PROT_READ | PROT_WRITE, MAP_SHARED, file, 0);
+    if (file >= 0)
+        close(file);
+    if (mapped == MAP_FAILED)
         return;
-    int file = open(path, O_RDWR | O_CREAT | O_CLOEXEC, 0666);
-    if (file < 0)
-        return;
-    if (has_size(file)) {
-        void *mapped = mmap(NULL, STATUS_BYTES, PROT_READ | PROT_WRITE, MAP_SHARED, file, 0);
-        if (mapped != MAP_FAILED) {
-            status = mapped;
-            own_memory(status, STATUS_BYTES);
-            take_slot();
-        }
-    }
-    close(file);
+    status = mapped;
+    own_memory(status, STATUS_BYTES);
+    status_begins();
+}
+
+/* Of this process's program. */
+static void say_loaded(const char how[sizeof loaded])
+{
+    char *slot = slot_of(getpid());
+    if (slot)
+        memcpy(slot + LOADED_AT, how, sizeof loaded - 1);
 }
 
 void status_lacks_memory(void)
 {
-    char *slot = slot_of(getpid());
-    if (slot)
-        memcpy(slot + LOADED_AT, without_memory, sizeof without_memory - 1);
-}
-
-void status_forked(void)
-{
-    take_slot();
-}
-
-static const char *base_of(const char *path)
-{
-    const char *slash = strrchr(path, '/');
-    return slash && slash[1] ? slash + 1 : path;
+    say_loaded(without_memory);
 }
 
 /*
@@ -166,27 +157,23 @@ static const char *base_of(const char *path)
  */
 void status_starts(const char *program)
 {
-    char *slot = slot_of(getpid());
-    if (!slot)
-        return;
-    write_name(slot + STARTED_AT, " " STATUS_STARTED " ", program);
-    memcpy(slot + LOADED_AT, not_loaded, sizeof not_loaded - 1);
+    status_started(getpid(), program);
+    say_loaded(not_loaded);
 }
 
 /* It didn't become it. */
 void status_starts_not(void)
 {
-    char *slot = slot_of(getpid());
-    if (slot)
-        memcpy(slot + LOADED_AT, loaded, sizeof loaded - 1);
+    say_loaded(loaded);
 }
 
 /* A new process was begun with that program, which may have loaded the recorder by now. */
 void status_started(pid_t process, const char *program)
 {
     char *slot = slot_of(process);
+    const char *slash = strrchr(program, '/');
     if (slot)
-        write_name(slot + STARTED_AT, " " STATUS_STARTED " ", base_of(program));
+        write_name(slot + STARTED_AT, " " STATUS_STARTED " ", slash && slash[1] ? slash + 1 : program);
 }
 
 static uint64_t hash_of(const char *word, const char *text)

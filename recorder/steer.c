@@ -19,15 +19,10 @@
 
 #include <errno.h>
 #include <fcntl.h>
-#include <limits.h>
 #include <linux/futex.h>
 #include <sched.h>
-#include <stdlib.h>
 #include <string.h>
-#include <sys/mman.h>
-#include <sys/stat.h>
 #include <sys/syscall.h>
-#include <unistd.h>
 #include <unwind.h>
 
 enum {
@@ -52,6 +47,9 @@ struct standing {
     uint32_t number;     /* of its pause, among all that have begun; 0 before it has */
     _Atomic uint32_t go; /* the word that the thread sleeps on */
 };
+#define FOR_EACH_STANDING(one)                                                                                         \
+    for (struct standing *one = standing; one < standing + STANDING; one++)                                            \
+        if (one->thread)
 
 /* What was spent at a place. */
 struct budget {
@@ -68,11 +66,6 @@ static __thread struct standing *waits_at __attribute__((tls_model("initial-exec
 static __thread uint32_t noise_spent __attribute__((tls_model("initial-exec")));
 static __thread uint32_t noise_seed __attribute__((tls_model("initial-exec")));
 
-static bool is_sound(const struct plan *read)
-{
-    return read->mark == PLAN_MARK && read->bytes == sizeof *read && read->orders <= PLAN_ORDERS;
-}
-
 /* To who looks on. */
 static void process_shown(void)
 {
@@ -85,20 +78,18 @@ static void process_shown(void)
 void steer_begins(void)
 {
     const char *path = secure_getenv("RECORDER_PLAN");
-    struct stat found;
+    struct {
+        uint64_t mark;
+        uint32_t bytes, orders;
+    } head; /* as the plan begins */
     int file = path && *path ? open(path, O_RDWR | O_CLOEXEC) : -1;
-    if (file < 0)
-        return;
-    void *mapped = MAP_FAILED;
-    if (fstat(file, &found) == 0 && found.st_size == (off_t)sizeof *plan)
-        mapped = mmap(NULL, sizeof *plan, PROT_READ | PROT_WRITE, MAP_SHARED, file, 0);
-    close(file);
+    bool is_sound = file >= 0 && pread(file, &head, sizeof head, 0) == sizeof head && head.mark == PLAN_MARK
+        && head.bytes == sizeof *plan && head.orders <= PLAN_ORDERS && lseek(file, 0, SEEK_END) == (off_t)sizeof *plan;
+    void *mapped = is_sound ? mmap(NULL, sizeof *plan, PROT_READ | PROT_WRITE, MAP_SHARED, file, 0) : MAP_FAILED;
+    if (file >= 0)
+        close(file);
     if (mapped == MAP_FAILED)
         return;
-    if (!is_sound(mapped)) {
-        munmap(mapped, sizeof *plan);
-        return;
-    }
     own_memory(mapped, sizeof *plan);
     plan = mapped;
     steers = true;
@@ -114,14 +105,9 @@ bool steer_is_everywhere(void)
 
 static bool is_code(const struct place *place, const struct plan_code *code)
 {
-    if ((place->file != NULL) != (code->is_named != 0))
-        return false;
-    if (place->file)
-        return place->offset == code->offset && strncmp(place->file, code->name, sizeof code->name) == 0;
-    if (!place->object || place->offset - 1 != code->offset)
-        return false;
-    const char *path = object_path(place->object), *slash = strrchr(path, '/');
-    return strncmp(slash ? slash + 1 : path, code->name, sizeof code->name) == 0;
+    const char *name = place->file ? place->file : place->object ? basename(object_path(place->object)) : "";
+    return (place->file != NULL) == (code->is_named != 0) && place->offset - !place->file == code->offset && *name
+        && strncmp(name, code->name, sizeof code->name) == 0;
 }
 
 static bool is_frame(const struct place *place, const struct plan_frame *frame)
@@ -132,33 +118,26 @@ static bool is_frame(const struct place *place, const struct plan_frame *frame)
         && is_code(place_at(place->rest), &frame->rest);
 }
 
-static bool is_first_of(const struct plan_chain *chain, const struct place *place)
-{
-    return chain->frames > 0 && is_frame(place, &chain->frame[0]);
-}
-
 void steer_place(struct place *place)
 {
-    if (place->detour >= DETOUR_LIBRARY)
-        return;
-    for (uint32_t i = 0; i < plan->orders; i++)
-        if (is_first_of(&plan->order[i].ask, place) || is_first_of(&plan->order[i].hold, place))
+    for (uint32_t i = 0; i < plan->orders && place->detour < DETOUR_LIBRARY; i++) {
+        const struct plan_chain *ask = &plan->order[i].ask, *hold = &plan->order[i].hold;
+        if ((ask->frames && is_frame(place, ask->frame)) || (hold->frames && is_frame(place, hold->frame)))
             place->detour = DETOUR_PLANNED;
+    }
 }
 
 static bool is_chain(const struct plan_chain *chain, const uint32_t *found, uint32_t count)
 {
-    if (chain->frames == 0 || chain->frames > count)
-        return false;
-    for (uint32_t i = 0; i < chain->frames; i++)
-        if (!found[i] || !is_frame(place_at(found[i]), &chain->frame[i]))
-            return false;
-    return true;
+    bool is = chain->frames > 0 && chain->frames <= count;
+    for (uint32_t i = 0; is && i < chain->frames; i++)
+        is = found[i] && is_frame(place_at(found[i]), &chain->frame[i]);
+    return is;
 }
 
 static void count_met(struct plan_met *met)
 {
-    int32_t thread = (int32_t)syscall(SYS_gettid), known = 0;
+    int32_t thread = gettid(), known = 0;
     atomic_fetch_add(&met->times, 1);
     if (!atomic_compare_exchange_strong(&met->thread, &known, thread) && known != thread)
         atomic_store(&met->thread, PLAN_SEVERAL_THREADS);
@@ -193,48 +172,32 @@ static struct arrival arrives(const struct request *request)
 
 /* Who may pause. */
 
-struct walk {
-    bool is_signal;
-};
-
-static _Unwind_Reason_Code look_at(struct _Unwind_Context *context, void *argument)
+static _Unwind_Reason_Code look_at(struct _Unwind_Context *context, void *is_signal)
 {
-    struct walk *walk = argument;
     int is_before = 0;
     _Unwind_GetIPInfo(context, &is_before);
-    walk->is_signal |= is_before != 0;
-    return walk->is_signal ? _URC_END_OF_STACK : _URC_NO_REASON;
+    *(bool *)is_signal |= is_before != 0;
+    return is_before ? _URC_END_OF_STACK : _URC_NO_REASON;
 }
 
-static void look_back(void *walk)
+static void look_back(void *is_signal)
 {
-    _Unwind_Backtrace(look_at, walk);
-}
-
-static bool is_in_handler(void)
-{
-    struct walk walk = {false};
-    if (atomic_load_explicit(&has_handlers, memory_order_relaxed))
-        aside(look_back, &walk);
-    return walk.is_signal;
-}
-
-static bool spins(const struct thread *thread)
-{
-    for (uint32_t i = 0; i < thread->count; i++) {
-        enum class class = thread->held[i].lock->type->class;
-        if (class == SPIN || class == SHARED_SPIN)
-            return true;
-    }
-    return false;
+    _Unwind_Backtrace(look_at, is_signal);
 }
 
 /* In a child of fork that has made no thread there is nobody to wait for, as anywhere. */
 static bool may_pause(const struct thread *thread)
 {
     int policy = sched_getscheduler(0);
-    return atomic_load(&threads_made_and_joined) != made_before && policy != SCHED_FIFO && policy != SCHED_RR
-        && !spins(thread) && !is_in_handler();
+    bool may = atomic_load(&threads_made_and_joined) != made_before && policy != SCHED_FIFO && policy != SCHED_RR;
+    bool is_in_handler = false;
+    for (uint32_t i = 0; may && i < thread->count; i++) {
+        enum class class = thread->held[i].lock->type->class;
+        may = class != SPIN && class != SHARED_SPIN;
+    }
+    if (may && atomic_load_explicit(&has_handlers, memory_order_relaxed))
+        aside(look_back, &is_in_handler);
+    return may && !is_in_handler;
 }
 
 /* The table. All of these under the mutex. */
@@ -243,13 +206,7 @@ static struct standing *stands(const struct request *request, enum where where, 
 {
     for (struct standing *free = standing; free < standing + STANDING; free++)
         if (!free->thread) {
-            free->thread = request->thread;
-            free->wanted = request->lock;
-            free->mode = request->mode;
-            free->where = where;
-            free->order = order;
-            free->number = 0;
-            atomic_store(&free->go, 0);
+            *free = (struct standing){request->thread, request->lock, request->mode, where, order, 0, 0};
             return free;
         }
     return NULL;
@@ -281,9 +238,9 @@ static bool is_waited_for(const struct standing *one, const struct thread *other
 /* Whether from the one a way leads to the last one, by who waits for whom. All on the way are let go. */
 static bool comes_round(struct standing *one, const struct standing *last, uint64_t *seen)
 {
-    for (struct standing *next = standing; next < standing + STANDING; next++) {
+    FOR_EACH_STANDING(next) {
         uint64_t bit = (uint64_t)1 << (next - standing);
-        if (!next->thread || next->where == AT_HOLD || (*seen & bit) || !is_waited_for(one, next->thread))
+        if (next->where == AT_HOLD || (*seen & bit) || !is_waited_for(one, next->thread))
             continue;
         *seen |= bit;
         if (next == last || comes_round(next, last, seen)) {
@@ -294,17 +251,11 @@ static bool comes_round(struct standing *one, const struct standing *last, uint6
     return false;
 }
 
-static bool closes_circle(struct standing *one)
-{
-    uint64_t seen = 0;
-    return comes_round(one, one, &seen);
-}
-
 /* Those that are held back until a thread stands at another order and wants their lock. */
 static void let_go_for(const struct standing *one)
 {
-    for (struct standing *other = standing; other < standing + STANDING; other++)
-        if (other->thread && other->where == AT_HOLD && other->order != one->order && other->wanted == one->wanted)
+    FOR_EACH_STANDING(other)
+        if (other->where == AT_HOLD && other->order != one->order && other->wanted == one->wanted)
             let_go(other);
 }
 
@@ -312,27 +263,18 @@ static void let_go_for(const struct standing *one)
 static bool has_partner(const struct request *request, uint32_t order)
 {
     bool found = false;
-    for (struct standing *other = standing; other < standing + STANDING; other++) {
-        if (!other->thread || other->order == order || other->thread == request->thread)
+    FOR_EACH_STANDING(other) {
+        bool is_same = other->wanted == request->lock;
+        if (other->order == order || other->thread == request->thread || is_same == (other->where == AT_HOLD))
             continue;
-        if (other->where != AT_HOLD) {
-            found |= other->wanted == request->lock;
-        } else if (other->wanted != request->lock) {
+        if (other->where == AT_HOLD)
             let_go(other);
-            found = true;
-        }
+        found = true;
     }
     return found;
 }
 
 /* Pauses. */
-
-static uint64_t milliseconds(void)
-{
-    struct timespec now;
-    clock_gettime(CLOCK_MONOTONIC, &now);
-    return (uint64_t)now.tv_sec * 1000 + (uint64_t)now.tv_nsec / 1000000;
-}
 
 static uint32_t pause_of(const struct budget *budget, uint32_t first)
 {
@@ -344,20 +286,16 @@ static uint32_t pause_of(const struct budget *budget, uint32_t first)
     return length < left ? length : left;
 }
 
-static bool is_contended(const struct lock *lock)
-{
-    uintptr_t address = atomic_load(&lock->address);
-    if (lock->type->class != MUTEX || address == 0)
-        return false;
-    return *(const volatile int *)&((const pthread_mutex_t *)address)->__data.__lock == 2;
-}
-
+/* Whether another thread waits for a mutex that the thread holds. */
 static bool is_in_the_way(const struct thread *thread)
 {
-    for (uint32_t i = 0; i < thread->count; i++)
-        if (is_contended(thread->held[i].lock))
-            return true;
-    return false;
+    bool is = false;
+    for (uint32_t i = 0; i < thread->count && !is; i++) {
+        const struct lock *lock = thread->held[i].lock;
+        const pthread_mutex_t *mutex = (const void *)atomic_load(&lock->address);
+        is = lock->type->class == MUTEX && mutex && *(const volatile int *)&mutex->__data.__lock == 2;
+    }
+    return is;
 }
 
 static void sleep_on(_Atomic uint32_t *word, uint64_t microseconds)
@@ -368,20 +306,14 @@ static void sleep_on(_Atomic uint32_t *word, uint64_t microseconds)
     errno = before;
 }
 
-enum pause { LET_GO, IN_VAIN, CUT_SHORT };
-
 /* Of all pauses that go on, it has gone on for the longest. */
 static bool is_oldest(const struct standing *one)
 {
-    bool is = recorder_enters();
-    for (const struct standing *other = standing; is && other < standing + STANDING; other++)
-        if (other->thread && other->number != 0 && other->number < one->number) {
-            recorder_leaves();
+    ENTERS_OR(return false);
+    FOR_EACH_STANDING(other)
+        if (other->number != 0 && other->number < one->number)
             return false;
-        }
-    if (is)
-        recorder_leaves();
-    return is;
+    return true;
 }
 
 /*
@@ -397,67 +329,44 @@ static bool all_sleep(struct standing *one)
 }
 
 /* Outside the mutex. */
-static enum pause pauses(struct standing *one, uint32_t length)
+static void pauses(struct standing *one, struct budget *budget, uint32_t length)
 {
-    uint64_t end = milliseconds() + length;
+    uint64_t begun = milliseconds(), now = begun, end = begun + length;
+    bool is_cut = false;
     one->number = atomic_fetch_add(&plan->begun, 1) + 1;
-    for (;;) {
-        uint64_t now = milliseconds();
-        if (atomic_load(&one->go))
-            return LET_GO;
-        if (now >= end)
-            return IN_VAIN;
+    while (!atomic_load(&one->go) && !is_cut && now < end) {
         sleep_on(&one->go, 1000 * (end - now < LOOK_MS ? end - now : LOOK_MS));
-        if (!atomic_load(&one->go) && (is_in_the_way(one->thread) || all_sleep(one)))
-            return CUT_SHORT;
+        is_cut = !atomic_load(&one->go) && (is_in_the_way(one->thread) || all_sleep(one));
+        now = milliseconds();
     }
-}
-
-/* Pauses as long as the budget has it. */
-static void pauses_within(struct standing *one, struct budget *budget, uint32_t length)
-{
-    uint64_t begun = milliseconds();
-    enum pause pause = pauses(one, length);
-    uint32_t spent = (uint32_t)(milliseconds() - begun);
-    if (!recorder_enters())
-        return;
+    ENTERS_OR(return);
+    budget->spent_ms += (uint32_t)(now - begun);
+    budget->cut += is_cut;
+    budget->vain += !is_cut && !atomic_load(&one->go);
     one->thread = NULL;
-    budget->spent_ms += spent;
-    budget->vain += pause == IN_VAIN;
-    budget->cut += pause == CUT_SHORT;
-    recorder_leaves();
 }
 
-static void hold_back(const struct request *request, uint32_t order)
+/* Stands there and pauses as long as the budget has it, unless it needn't. */
+static void stand(const struct request *request, enum where where, uint32_t order)
 {
-    struct budget *budget = &before_hold[order];
-    if (!recorder_enters())
-        return;
-    uint32_t length = has_partner(request, order) ? 0 : pause_of(budget, plan->back_ms);
-    struct standing *one = length ? stands(request, AT_HOLD, order) : NULL;
-    recorder_leaves();
-    if (one)
-        pauses_within(one, budget, length);
-}
-
-static void stand_before_ask(const struct request *request, uint32_t order)
-{
-    struct budget *budget = &before_ask[order];
-    if (!recorder_enters())
-        return;
+    struct budget *budget = where == AT_HOLD ? &before_hold[order] : &before_ask[order];
     uint32_t length = 0;
-    struct standing *one = stands(request, AT_ASK, order);
-    if (one && closes_circle(one)) {
+    if (!recorder_enters())
+        return;
+    bool is_needed = where != AT_HOLD || !has_partner(request, order);
+    struct standing *one = is_needed ? stands(request, where, order) : NULL;
+    if (one && where == AT_ASK && comes_round(one, one, &(uint64_t){0})) {
         atomic_fetch_add(&plan->met, 1);
     } else if (one) {
-        let_go_for(one);
-        length = pause_of(budget, plan->pause_ms);
+        if (where == AT_ASK)
+            let_go_for(one);
+        length = pause_of(budget, where == AT_HOLD ? plan->back_ms : plan->pause_ms);
     }
     if (one && length == 0)
         one->thread = NULL;
     recorder_leaves();
     if (length)
-        pauses_within(one, budget, length);
+        pauses(one, budget, length);
 }
 
 /* Every other request with something held, for a while of any length up to the plan's. */
@@ -465,7 +374,7 @@ static void make_noise(const struct thread *thread)
 {
     static _Atomic uint32_t nothing;
     if (noise_seed == 0)
-        noise_seed = (uint32_t)syscall(SYS_gettid) * 2654435761u ^ (uint32_t)milliseconds();
+        noise_seed = (uint32_t)gettid() * 2654435761u ^ (uint32_t)milliseconds();
     noise_seed = noise_seed * 1664525u + 1013904223u;
     uint32_t length = (noise_seed >> 8) % (1000 * plan->noise_ms + 1);
     if (noise_seed >> 31 || noise_spent >= 1000 * NOISE_MS || !may_pause(thread))
@@ -474,21 +383,17 @@ static void make_noise(const struct thread *thread)
     sleep_on(&nothing, length);
 }
 
-void steer_counts(const struct request *request)
-{
-    arrives(request);
-}
-
 bool steer_asks(const struct request *request)
 {
     struct thread *thread = request->thread;
     struct arrival arrival = arrives(request);
-    bool is_in_plan = arrival.hold < PLAN_ORDERS || arrival.ask < PLAN_ORDERS;
-    if (is_in_plan && may_pause(thread)) {
+    if (request->timed || request->repeats)
+        return false;
+    if ((arrival.hold < PLAN_ORDERS || arrival.ask < PLAN_ORDERS) && may_pause(thread)) {
         if (arrival.hold < PLAN_ORDERS)
-            hold_back(request, arrival.hold);
+            stand(request, AT_HOLD, arrival.hold);
         if (arrival.ask < PLAN_ORDERS)
-            stand_before_ask(request, arrival.ask);
+            stand(request, AT_ASK, arrival.ask);
     }
     if (plan->noise_ms && thread->count != 0 && !request->again)
         make_noise(thread);
@@ -497,39 +402,29 @@ bool steer_asks(const struct request *request)
 
 /* Waits that last. */
 
-/* The thread that the lock itself names as its holder; 0 where it names none. A reader isn't named. */
-static int32_t owner_of(const struct lock *lock)
-{
-    uintptr_t address = atomic_load(&lock->address);
-    if (lock->type->class == MUTEX)
-        return mutex_holder(address);
-    return lock->type->class == RWLOCK ? rwlock_writer(address) : 0;
-}
-
-static void write_owner_for(const struct request *request)
+/* `owner SEAT LOCK THREAD`: whom the lock itself names as its holder, 0 for none, while the seat's thread waits for it. */
+static void write_owner(const struct request *request)
 {
     if (request->pending && stream_has_room())
-        write_owner(request->thread, request->number, owner_of(request->lock));
+        write_line(WORD_OWNER " %u %u %u", request->thread->seat, request->number, (uint32_t)lock_holder(request->lock));
 }
 
 void steer_waits(const struct request *request)
 {
-    if (!recorder_enters())
-        return;
-    write_owner_for(request);
-    waiters_each(write_owner_for);
-    recorder_leaves();
+    ENTERS_OR(return);
+    write_owner(request);
+    waiters_each(write_owner);
 }
 
 void steer_wait_begins(const struct request *request)
 {
     struct arrival arrival = arrives(request);
-    if (arrival.ask == PLAN_ORDERS || !recorder_enters())
+    if (arrival.ask == PLAN_ORDERS)
         return;
+    ENTERS_OR(return);
     waits_at = stands(request, AT_WAIT, arrival.ask);
     if (waits_at)
         let_go_for(waits_at);
-    recorder_leaves();
 }
 
 bool steer_wait_pauses(void)
@@ -541,31 +436,29 @@ void steer_pauses_after_wait(const struct request *request)
 {
     uint32_t order = waits_at->order;
     steer_wait_ends();
-    stand_before_ask(request, order);
+    stand(request, AT_ASK, order);
 }
 
 void steer_wait_ends(void)
 {
-    if (!waits_at || !recorder_enters())
+    if (!waits_at)
         return;
+    ENTERS_OR(return);
     waits_at->thread = NULL;
     waits_at = NULL;
-    recorder_leaves();
 }
 
 void steer_left(const struct thread *thread)
 {
-    for (struct standing *one = standing; one < standing + STANDING; one++)
-        if (one->thread == thread)
+    FOR_EACH_STANDING(one)
+        if (!thread || one->thread == thread)
             one->thread = NULL;
     waits_at = NULL;
 }
 
 void steer_forked(void)
 {
-    for (struct standing *one = standing; one < standing + STANDING; one++)
-        one->thread = NULL;
-    waits_at = NULL;
+    steer_left(NULL);
     made_before = atomic_load(&threads_made_and_joined);
     if (steers)
         process_shown();

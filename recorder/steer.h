@@ -20,12 +20,9 @@ bool steer_is_everywhere(void);
 /* A new place gets its detour where the plan has it. Under the mutex, before anybody sees the place. */
 void steer_place(struct place *place);
 
-/* A request with a time limit comes to a place: that is counted, and it never pauses. */
-void steer_counts(const struct request *request);
-
 /*
- * Before the real call of a request, outside the mutex: the thread may pause. Whether the request is to be watched: it
- * holds something, so it may come to wait in a circle.
+ * Before the real call of a request, outside the mutex: the thread may pause, but for a request with a time limit, which is
+ * counted alone. Whether the request is to be watched: it holds something, so it may come to wait in a circle.
  */
 bool steer_asks(const struct request *request);
 

@@ -10,12 +10,9 @@
 
 #include <errno.h>
 #include <fcntl.h>
-#include <stdlib.h>
+#include <stdarg.h>
 #include <string.h>
-#include <sys/mman.h>
-#include <sys/resource.h>
 #include <sys/stat.h>
-#include <unistd.h>
 
 /* A line has room for a path of 4,096 bytes, each of which is escaped. */
 enum { PATH_MOST = 512, LINE_MOST = 1 << 14, PIECE = 1 << 16, ATTEMPTS_MOST = 100 };
@@ -45,11 +42,12 @@ static struct {
     bool is_long; /* the line doesn't fit */
 } stream;
 __attribute__((aligned(4096))) char asked_page[PAGE_BYTES];
+uint64_t stream_made_at;
 static size_t name_at; /* where the file's name begins in its path */
-#define NAME_OF(number, name) " " name " ",
+#define NAME_OF(number, name) name,
 static const char *const missed_names[MISSES] = {EACH_MISSED(NAME_OF)};
 
-static void put(const char *from, size_t length)
+static void put_bytes(const char *from, size_t length)
 {
     if (length > LINE_MOST - stream.length) {
         stream.is_long = true;
@@ -59,36 +57,23 @@ static void put(const char *from, size_t length)
     stream.length += length;
 }
 
-void put_text(const char *from)
-{
-    put(from, strlen(from));
-}
-
-/* A space, and the number in so many digits of its base as it has. */
+/* The number in so many digits of its base as it has. */
 static void put_digits(uint64_t number, uint32_t base)
 {
-    char digits[21];
+    char digits[20];
     size_t at = sizeof digits;
     do
         digits[--at] = "0123456789abcdef"[number % base];
     while (number /= base);
-    digits[--at] = ' ';
-    put(digits + at, sizeof digits - at);
+    put_bytes(digits + at, sizeof digits - at);
 }
 
-void put_number(uint64_t number)
+static void put_word(const char *word)
 {
-    put_digits(number, 10);
-}
-
-void put_hexadecimal(uint64_t number)
-{
-    put_digits(number, 16);
-}
-
-void put_word(const char *word)
-{
-    put_text(*word ? " " : " " NO_NAME);
+    if (!*word) {
+        put_bytes(NO_NAME, strlen(NO_NAME));
+        return;
+    }
     size_t room = LINE_MOST - stream.length, length = word_escaped(word, stream.line + stream.length, room);
     if (length > room)
         stream.is_long = true;
@@ -96,15 +81,37 @@ void put_word(const char *word)
         stream.length += length;
 }
 
-/* A file that grows over this limit ends the program. */
-static bool is_allowed(uint64_t size)
+static void put_list(const char *words, va_list list)
 {
-    struct rlimit limit;
-    if (getrlimit(RLIMIT_FSIZE, &limit) == 0 && limit.rlim_cur != RLIM_INFINITY && size > limit.rlim_cur) {
-        errno = EFBIG;
-        return false;
+    for (; *words; words++) {
+        bool is_wide = words[0] == '%' && words[1] == 'l';
+        char byte = *words == '%' ? *(words += 1 + is_wide) : '\0';
+        if (byte == '\0')
+            put_bytes(words, 1);
+        else if (byte == 's')
+            put_word(va_arg(list, const char *));
+        else if (byte == 'c')
+            put_bytes(&(char){(char)va_arg(list, int)}, 1);
+        else
+            put_digits(is_wide ? va_arg(list, uint64_t) : va_arg(list, uint32_t), byte == 'x' ? 16 : 10);
     }
-    return true;
+}
+
+void line_put(const char *words, ...)
+{
+    va_list list;
+    va_start(list, words);
+    put_list(words, list);
+    va_end(list);
+}
+
+void write_line(const char *words, ...)
+{
+    va_list list;
+    va_start(list, words);
+    put_list(words, list);
+    va_end(list);
+    stream_append(false);
 }
 
 /*
@@ -126,7 +133,8 @@ static bool window_opens(int flags)
 {
     void *window = MAP_FAILED;
     uint64_t size = stream.offset + WINDOW;
-    int file = is_allowed(size) ? open(stream.path, O_RDWR | O_CLOEXEC | flags, 0600) : -1;
+    errno = EFBIG;
+    int file = file_may_have(size) ? open(stream.path, O_RDWR | O_CLOEXEC | flags, 0600) : -1;
     if (file < 0)
         return false;
     if (flags & O_CREAT)
@@ -185,11 +193,11 @@ static bool grows(void)
     bool given = stream.ready < stream.end || window_opens(0);
     if (given && madvise(stream.ready, PIECE, MADV_POPULATE_WRITE) != 0)
         given = errno == EINVAL && piece_is_given();
+    stream.ended = !given;
     if (given)
         stream.ready += PIECE;
     else
-        stream.cause = cause_of(errno);
-    stream.ended = !given;
+        count_failure(stream.cause = cause_of(errno));
     return given;
 }
 
@@ -205,6 +213,7 @@ static COLD void leave_out(void)
 void stream_append(bool is_entry)
 {
     const char *from = stream.line;
+    line_put("\n");
     if (UNLIKELY(stream.is_long))
         leave_out();
     size_t left = name_at ? stream.length : 0;
@@ -215,8 +224,8 @@ void stream_append(bool is_entry)
         stream.at += now;
         from += now;
         left -= now;
-        if (left > 0 && !grows())
-            count_failure(stream.cause);
+        if (left > 0)
+            grows();
     }
     stream.length = 0;
     stream.entries += is_entry;
@@ -227,23 +236,11 @@ bool stream_has_file(void)
     return name_at != 0;
 }
 
-uint32_t stream_entries(void)
-{
-    return stream.entries;
-}
-
 /* A file that nobody has: a process may have had this one's number, or have been this one before an exec. */
 static bool file_opens(void)
 {
     for (uint32_t attempt = 0; attempt < 1000; attempt++) {
-        stream.length = 0;
-        put_number((uint64_t)getpid());
-        put_number(attempt);
-        memcpy(stream.path + name_at, stream.line, stream.length);
-        stream.path[name_at + stream.length] = '\0';
-        *strchr(stream.path + name_at, ' ') = '/';
-        *strchr(stream.path + name_at, ' ') = '.';
-        stream.length = 0;
+        snprintf(stream.path + name_at, PATH_MOST - name_at, "/%d.%u", getpid(), attempt);
         if (window_opens(O_CREAT | O_EXCL))
             return true;
         if (errno != EEXIST)
@@ -256,17 +253,13 @@ static bool file_opens(void)
 static void begin(void)
 {
     stream.begun = true;
-    put_text(WORD_ASKED " 0 " WORD_VERSION);
-    put_number(FORMAT_VERSION);
-    put_text(" " WORD_MISSED);
+    line_put(WORD_ASKED " 0 " WORD_VERSION " %u " WORD_MISSED, (uint32_t)FORMAT_VERSION);
     for (int what = 0; what < MISSES; what++) {
-        put_text(missed_names[what]);
+        line_put(" %s ", missed_names[what]);
         stream.counts[what] = stream.at + stream.length;
-        put_text("0000000000");
+        line_put("0000000000");
     }
-    put_text("\n" WORD_PROGRAM);
-    put_word(program_name);
-    put_text("\n");
+    line_put("\n" WORD_PROGRAM " %s", program_name);
     stream_append(false);
 }
 
@@ -278,22 +271,29 @@ bool stream_opens(void)
 {
     if (LIKELY(stream.begun && !stream.ended) || name_at == 0)
         return true;
-    if (stream.ended) {
-        count_failure(stream.cause);
-        return false;
+    bool is_there = !stream.ended && (stream.first || (stream.attempts < ATTEMPTS_MOST && file_opens()));
+    if (is_there && grows()) {
+        begin();
+        return true;
     }
-    if (!stream.first && (stream.attempts >= ATTEMPTS_MOST || !file_opens())) {
-        if (stream.attempts++ < ATTEMPTS_MOST)
-            stream.cause = cause_of(errno);
+    if (!stream.ended && stream.attempts++ < ATTEMPTS_MOST)
+        stream.cause = cause_of(errno);
+    if (!is_there)
         count_failure(stream.cause);
+    return false;
+}
+
+/* What the seats may owe the log at most: all locks that they hold, and a request for each seat. */
+#define OWED_MOST (SEATS * (HELD_MOST + 2))
+
+bool stream_has_room(void)
+{
+    if (!stream_opens())
         return false;
-    }
-    if (!grows()) {
-        count_failure(stream.cause);
-        return false;
-    }
-    begin();
-    return true;
+    if (stream.entries < LOG_LIMIT - OWED_MOST)
+        return true;
+    count_missed(MISSED_LOG);
+    return false;
 }
 
 /* Whether somebody who looks on has set the byte. */
@@ -307,24 +307,17 @@ void stream_is_answered(void)
     stream.first[ASKED_AT] = ASKED_NOT;
 }
 
-static uint64_t milliseconds(void)
+uint64_t milliseconds(void)
 {
     struct timespec now;
     clock_gettime(CLOCK_MONOTONIC, &now);
     return (uint64_t)now.tv_sec * 1000 + (uint64_t)now.tv_nsec / 1000000;
 }
 
-static uint64_t made_at;
-
-uint64_t stream_time(void)
-{
-    return milliseconds() - made_at;
-}
-
 /* Makes the file. Where that fails, it is tried again when there is something to write. */
 static void file_is_made(void)
 {
-    made_at = milliseconds();
+    stream_made_at = milliseconds();
     if (name_at)
         file_opens();
 }
@@ -355,10 +348,8 @@ void count_missed(enum missed what)
 /* As count_missed, outside the mutex. */
 COLD void count_missed_outside(enum missed what)
 {
-    if (!recorder_enters())
-        return;
+    ENTERS_OR(return);
     count_missed(what);
-    recorder_leaves();
 }
 
 static void unmap(void)

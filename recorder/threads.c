@@ -7,7 +7,6 @@
 #include "quick.h"
 
 #include <sys/syscall.h>
-#include <unistd.h>
 
 #include "witness.h"
 
@@ -50,18 +49,6 @@ static struct beginning begun(struct beginning *given)
     return beginning;
 }
 
-static void *begin_posix(void *given)
-{
-    struct beginning beginning = begun(given);
-    return beginning.routine.posix(beginning.argument);
-}
-
-static int begin_c11(void *given)
-{
-    struct beginning beginning = begun(given);
-    return beginning.routine.c11(beginning.argument);
-}
-
 /* The thread tells of its pairs of single locks again, since it has made another thread. */
 static void tell_anew(void)
 {
@@ -73,15 +60,14 @@ static void tell_anew(void)
 static struct beginning *taken_by(struct caller caller, void *argument)
 {
     struct beginning *found = NULL;
-    if (!goes_far_inside(caller.stack))
-        return NULL;
+    GOES_INSIDE_OR(caller.stack, return NULL);
     for (uint32_t i = 0; i < BEGINNINGS && !found; i++)
         if (!atomic_load_explicit(&beginnings[i].taken, memory_order_relaxed)
             && !atomic_exchange(&beginnings[i].taken, true))
             found = &beginnings[i];
     if (found) {
         found->place = place_of(site_or(makes_at, caller));
-        found->maker = (uint32_t)syscall(SYS_gettid);
+        found->maker = (uint32_t)gettid();
         found->grand = self.maker;
         found->maker_at = self.made_at;
         atomic_fetch_add(&threads_in_making, 1);
@@ -91,7 +77,6 @@ static struct beginning *taken_by(struct caller caller, void *argument)
             tell_anew();
     }
     makes_at = 0;
-    goes_outside(&self);
     return found;
 }
 
@@ -103,50 +88,44 @@ static void is_made(struct beginning *beginning, bool succeeded)
         atomic_store(&beginning->taken, false);
 }
 
-EXPORT int pthread_create(
-    pthread_t *thread, const pthread_attr_t *attributes, void *(*routine)(void *), void *argument)
-{
-    start();
-    struct beginning *beginning = taken_by(CALLER, argument);
-    if (!beginning)
-        return real.create(thread, attributes, routine, argument);
-    beginning->routine.posix = routine;
-    int answer = real.create(thread, attributes, begin_posix, beginning);
-    is_made(beginning, answer == 0);
-    return answer;
-}
+/* C11's success is POSIX's. MAKE(routine, argument) is the real call. */
+#define CREATES(name, kind, answer_type, parameters, make)                                                             \
+    static answer_type begin_##kind(void *given)                                                                       \
+    {                                                                                                                  \
+        struct beginning beginning = begun(given);                                                                     \
+        return beginning.routine.kind(beginning.argument);                                                             \
+    }                                                                                                                  \
+    EXPORT int name parameters                                                                                         \
+    {                                                                                                                  \
+        start();                                                                                                       \
+        struct beginning *beginning = taken_by(CALLER, argument);                                                      \
+        if (!beginning)                                                                                                \
+            return make(routine, argument);                                                                            \
+        beginning->routine.kind = routine;                                                                             \
+        int answer = make(begin_##kind, beginning);                                                                    \
+        is_made(beginning, answer == thrd_success);                                                                    \
+        return answer;                                                                                                 \
+    }
+#define CREATE_POSIX(function, of) real.pthread_create(thread, attributes, function, of)
+#define CREATE_C11(function, of) real.thrd_create(thread, function, of)
+CREATES(pthread_create, posix, void *,
+    (pthread_t *thread, const pthread_attr_t *attributes, void *(*routine)(void *), void *argument), CREATE_POSIX)
+CREATES(thrd_create, c11, int, (thrd_t *thread, thrd_start_t routine, void *argument), CREATE_C11)
 
-EXPORT int thrd_create(thrd_t *thread, thrd_start_t routine, void *argument)
-{
-    start();
-    struct beginning *beginning = taken_by(CALLER, argument);
-    if (!beginning)
-        return real.c11_create(thread, routine, argument);
-    beginning->routine.c11 = routine;
-    int answer = real.c11_create(thread, begin_c11, beginning);
-    is_made(beginning, answer == thrd_success);
-    return answer;
-}
 
-EXPORT int pthread_join(pthread_t thread, void **answered)
-{
-    start();
-    struct joining joining = order_joins(thread);
-    int answer = real.join(thread, answered);
-    if (answer == 0)
-        order_of_joined(joining);
-    return answer;
-}
-
-EXPORT int thrd_join(thrd_t thread, int *answered)
-{
-    start();
-    struct joining joining = order_joins(thread);
-    int answer = real.c11_join(thread, answered);
-    if (answer == thrd_success)
-        order_of_joined(joining);
-    return answer;
-}
+/* C11's success is POSIX's. */
+#define JOINS(name, type, answer_type)                                                                                 \
+    EXPORT int name(type thread, answer_type *answered)                                                                \
+    {                                                                                                                  \
+        start();                                                                                                       \
+        struct joining joining = order_joins(thread);                                                                  \
+        int answer = real.name(thread, answered);                                                                      \
+        if (answer == thrd_success)                                                                                    \
+            order_of_joined(joining);                                                                                  \
+        return answer;                                                                                                 \
+    }
+JOINS(pthread_join, pthread_t, void *)
+JOINS(thrd_join, thrd_t, int)
 
 /* In the child no thread is about to begin. */
 void threads_forked(void)

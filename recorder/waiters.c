@@ -15,7 +15,6 @@
 #include <string.h>
 #include <sys/prctl.h>
 #include <sys/syscall.h>
-#include <unistd.h>
 
 /* Further threads are passed over: no trace has seats for more. */
 enum { WAITERS = SEATS };
@@ -86,16 +85,16 @@ void waiter_ends(struct request *request)
     if (turns(self.waiter, WAITS, FREE)) {
         atomic_fetch_sub(&unwritten, 1);
         self.waiter = NULL;
-    } else if (recorder_enters()) {
-        *request = self.waiter->request;
-        waiter_forgotten(&self);
-        recorder_leaves();
+        return;
     }
+    ENTERS_OR(return);
+    *request = self.waiter->request;
+    waiter_forgotten(&self);
 }
 
 long thread_number(const struct thread *thread)
 {
-    return thread == &self ? syscall(SYS_gettid) : thread->waiter->number;
+    return thread == &self ? gettid() : thread->waiter->number;
 }
 
 void thread_name(const struct thread *thread, char name[THREAD_NAME_ROOM])

@@ -81,8 +81,6 @@ static __attribute__((noinline)) int acquire_slowly(const struct way *way, void 
         return way->lock(address);
     if (UNLIKELY(request.again != NULL) && way->mode == SHARED)
         error_of_reread(&request);
-    if (UNLIKELY(steers) && steer_asks(&request))
-        request.patient = true;
     int answer = request.patient ? way->look(address) : way->lock(address);
     if (UNLIKELY(request.patient && answer == EBUSY))
         answer = wait_patiently(&request, way, address);

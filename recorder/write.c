@@ -11,8 +11,8 @@
  * thread doesn't hold, a lock in a mode other than the one it is held in.
  *
  * The duty: a request by a thread that holds locks is written, after all that the thread holds, unless each of its pairs of
- * types (held, asked) was written before. A proved library keeps it (condensed.h). All else may be left out: what a thread asks for that holds
- * nothing, what it acquires again, and what it holds when it asks for nothing.
+ * types (held, asked) was written before. A proved library keeps it (condensed.h). All else may be left out: what a thread
+ * asks for that holds nothing, what it acquires again, and what it holds when it asks for nothing.
  *
  * Why that is enough. By the duty the stream tells of each pair that the program made. Where it is clean, no order of the
  * threads' steps makes them wait for one another in a circle (law_covered_never_deadlock of crates/wit_recordings). It tells of
@@ -36,10 +36,6 @@
 
 #include <string.h>
 #include <sys/syscall.h>
-#include <unistd.h>
-
-/* What the seats may owe the log at most: all locks that they hold, and a request for each seat. */
-#define OWED_MOST (SEATS * (HELD_MOST + 2))
 
 /*
  * `thread SEAT NAME PLACE NUMBER`: its name, `-` where it has its program's; where it was made, 0 where that isn't known;
@@ -55,120 +51,60 @@ void write_thread(const struct thread *thread)
         if (*at <= ' ' || *at > '~' || *at == '&' || *at == '\\')
             *at = '_';
     uint32_t made = place_number(thread->made);
-    put_text(WORD_THREAD);
-    put_number(thread->seat);
-    put_word(name);
-    put_number(made);
-    put_number((uint64_t)thread_number(thread));
-    put_text("\n");
-    stream_append(false);
-}
-
-/* The stream has the lock held or asked for by the thread. */
-static void stands(struct thread *thread, uint32_t number)
-{
-    thread->written++;
-    number_stands(number);
-}
-
-static void stands_no_more(struct thread *thread, uint32_t number)
-{
-    thread->written--;
-    number_stands_no_more(number);
-    seat_given_back(thread);
-}
-
-bool stream_has_room(void)
-{
-    if (!stream_opens())
-        return false;
-    if (stream_entries() < LOG_LIMIT - OWED_MOST)
-        return true;
-    count_missed(MISSED_LOG);
-    return false;
-}
-
-/* A line of a call: its word, the seat, the lock and, where they are wanted, the mode and the place. */
-static void write_call(const char *word, const struct thread *thread, uint32_t lock)
-{
-    put_text(word);
-    put_number(thread->seat);
-    put_number(lock);
-}
-
-static void end_call(void)
-{
-    put_text("\n");
-    stream_append(true);
+    write_line(WORD_THREAD " %u %s %u %lu", thread->seat, name, made, (uint64_t)thread_number(thread));
 }
 
 /* A line that is no call of the trace: its word, the seat, the lock and the place. */
 static void write_note(const char *word, const struct thread *thread, uint32_t lock, uint32_t place)
 {
     uint32_t site = place_number(place);
-    write_call(word, thread, lock);
-    put_number(site);
-    put_text("\n");
-    stream_append(false);
+    write_line("%s %u %u %u", word, thread->seat, lock, site);
 }
 
-static void put_mode(uint8_t mode)
+static char letter_of(uint8_t mode)
 {
-    put_text(mode == SHARED ? " s" : " x");
+    return mode == SHARED ? 's' : 'x';
 }
 
-/* The place, and after it the stack where there is one. */
-static void put_site(uint32_t site, uint32_t stack)
-{
-    put_number(site);
-    if (stack)
-        put_number(stack);
-}
-
-static uint32_t site_declared(uint32_t place, uint32_t stack)
+/* A request or a try: what it says of the lock, HOW, the place, and the stack where there is one. */
+static void write_asking(const char *word, const struct thread *thread, uint32_t lock, uint8_t mode, const char *how,
+    uint32_t place, uint32_t stack)
 {
     uint32_t site = place_number(place);
     if (stack)
         stack_stands(stack);
-    return site;
+    line_put("%s %u %u %c", word, thread->seat, lock, letter_of(mode));
+    if (how)
+        line_put(" %s", how);
+    line_put(" %u", site);
+    if (stack)
+        line_put(" %u", stack);
+    stream_append(true);
 }
 
-static void write_check(const struct thread *thread, uint32_t lock, uint8_t mode, const char *how, uint32_t place, uint32_t stack)
+static void write_check(const struct thread *thread, uint32_t lock, uint8_t mode, const char *how, uint32_t place,
+    uint32_t stack)
 {
-    uint32_t site = site_declared(place, stack);
-    write_call(WORD_CHECK, thread, lock);
-    put_mode(mode);
-    put_text(how);
-    put_site(site, stack);
-    end_call();
+    write_asking(WORD_CHECK, thread, lock, mode, how, place, stack);
     judge_asked(thread, lock, mode, place);
 }
 
 static void write_lock(const struct thread *thread, uint32_t lock)
 {
-    write_call(WORD_LOCK, thread, lock);
-    end_call();
+    line_put(WORD_LOCK " %u %u", thread->seat, lock);
+    stream_append(true);
     judge_got(thread, lock);
-}
-
-static void write_try(const struct thread *thread, const struct held *held)
-{
-    uint32_t site = site_declared(held->place, held->stack);
-    write_call(WORD_TRY, thread, held->number);
-    put_mode(held->mode);
-    put_site(site, held->stack);
-    end_call();
-    judge_tried(thread, held->number, held->mode, held->place);
 }
 
 static void write_held(struct thread *thread, struct held *held)
 {
     held->written |= IS_WRITTEN;
-    stands(thread, held->number);
+    number_stands(thread, held->number);
     if (held->tried) {
-        write_try(thread, held);
+        write_asking(WORD_TRY, thread, held->number, held->mode, NULL, held->place, held->stack);
+        judge_tried(thread, held->number, held->mode, held->place);
     } else {
-        write_check(thread, held->number, held->mode, " " CHECK_ASKS, held->place, held->stack);
+        write_check(thread, held->number, held->mode, CHECK_ASKS, held->place, held->stack);
         write_lock(thread, held->number);
     }
 }
@@ -209,10 +145,10 @@ static void write_chain(struct thread *thread)
 static void write_asked(struct request *request, uint32_t number, bool is_due)
 {
     struct thread *thread = request->thread;
-    write_check(thread, number, request->mode, is_due ? " " CHECK_ASKS : " " CHECK_KNOWN, request->place, request->stack);
+    write_check(thread, number, request->mode, is_due ? CHECK_ASKS : CHECK_KNOWN, request->place, request->stack);
     request->number = thread->asked = number;
     request->pending = true;
-    stands(thread, number);
+    number_stands(thread, number);
 }
 
 /* `time N`: what follows was asked for so many milliseconds after the process began. Once for all of one millisecond. */
@@ -220,41 +156,35 @@ static void write_time(void)
 {
     static uint64_t told;
     static uint32_t told_life;
-    uint64_t time = stream_time();
+    uint64_t time = milliseconds() - stream_made_at;
     if (told_life == life && told == time)
         return;
     told_life = life;
     told = time;
-    put_text(WORD_TIME);
-    put_number(time);
-    put_text("\n");
-    stream_append(false);
+    write_line(WORD_TIME " %lu", time);
 }
 
 /* Writes the lines that the request needs, where they have room. */
 static void write_due(struct request *request)
 {
     struct thread *thread = request->thread;
-    if (!stream_has_room() || !seat_taken(thread))
-        return;
+    SEATED_OR(thread, return);
     chain_read(thread);
     uint32_t number = lock_number(thread, request->lock);
-    if (number != 0) {
-        write_time();
-        uint16_t type = (uint16_t)*mark(&request->lock->type->marks);
-        bool is_due = request->patient || !WRITES_ALL || !chain_is_told(thread, request->lock->type);
-        bool waits = request->patient || WRITES_ALL;
-        size_t lines
-            = wit_condensed_lines(pairs, chain.links, chain.count, number, type, waits, chain.lines, HELD_MOST + 1);
-        for (size_t i = 0; i < lines; i++)
-            if (chain.lines[i].kind == WIT_LINE_ASKS)
-                write_asked(request, number, is_due);
-            else
-                write_held(thread, &thread->held[chain.at[chain.lines[i].link]]);
-        /* From here on other threads may leave out what these lines tell. */
-        wit_condensed_ask(pairs, chain.links, chain.count, number, type, waits, chain.lines, HELD_MOST + 1);
-    }
-    seat_given_back(thread);
+    if (number == 0)
+        return;
+    write_time();
+    uint16_t type = (uint16_t)*mark(&request->lock->type->marks);
+    bool is_due = request->patient || !WRITES_ALL || !chain_is_told(thread, request->lock->type);
+    bool waits = request->patient || WRITES_ALL;
+    size_t lines = wit_condensed_lines(pairs, chain.links, chain.count, number, type, waits, chain.lines, HELD_MOST + 1);
+    for (size_t i = 0; i < lines; i++)
+        if (chain.lines[i].kind == WIT_LINE_ASKS)
+            write_asked(request, number, is_due);
+        else
+            write_held(thread, &thread->held[chain.at[chain.lines[i].link]]);
+    /* From here on other threads may leave out what these lines tell. */
+    wit_condensed_ask(pairs, chain.links, chain.count, number, type, waits, chain.lines, HELD_MOST + 1);
 }
 
 /* The stream has it where it tells something new, or waits for long. */
@@ -277,14 +207,12 @@ static void put_request(struct request *request)
 /* Before the real call. */
 COLD void write_request(struct request *request)
 {
-    if (!recorder_enters())
-        return;
+    ENTERS_OR(return);
     put_request(request);
     waiters_written();
     /* It waits for a second by a call with a time limit, so that it can be looked at once more. */
     if (judge_sees_circle(request))
         request->patient = true;
-    recorder_leaves();
 }
 
 COLD void write_request_of(struct request *request)
@@ -297,13 +225,11 @@ COLD void write_request_of(struct request *request)
 /* After the real call, which got the lock. What is held isn't in the chain yet. */
 COLD void write_acquired(struct request *request, struct held *held)
 {
-    if (!recorder_enters())
-        return;
+    ENTERS_OR(return);
     write_lock(request->thread, request->number);
     request->thread->asked = 0;
     held->written |= IS_WRITTEN;
     held->number = request->number;
-    recorder_leaves();
 }
 
 /* What the thread asks for isn't asked for any longer. */
@@ -314,249 +240,128 @@ static void give_up(struct thread *thread)
     if (number == 0)
         return;
     thread->asked = 0;
-    write_call(WORD_GIVEUP, thread, number);
-    end_call();
+    line_put(WORD_GIVEUP " %u %u", thread->seat, number);
+    stream_append(true);
     judge_gave_up(thread, number);
-    stands_no_more(thread, number);
+    number_stands_no_more(thread, number);
 }
 
 /* After the real call, which didn't get the lock. */
 COLD void write_given_up(struct request *request)
 {
-    if (!recorder_enters())
-        return;
+    ENTERS_OR(return);
     give_up(request->thread);
     request->pending = false;
-    recorder_leaves();
 }
 
 /* The thread has left a call before its end: what that call asked for is given up. */
 COLD void write_left(struct thread *thread)
 {
-    if (!recorder_enters())
-        return;
+    ENTERS_OR(return);
     count_failure(FAILED_JUMPED);
     waiter_forgotten(thread);
     if (UNLIKELY(steers))
         steer_left(thread);
     give_up(thread);
-    recorder_leaves();
 }
 
 /* Before the real release of all acquisitions. */
 COLD void write_unlock(struct thread *thread, struct held *held)
 {
-    if (!recorder_enters())
-        return;
-    write_call(WORD_UNLOCK, thread, held->number);
-    put_mode(held->mode);
-    end_call();
+    ENTERS_OR(return);
+    line_put(WORD_UNLOCK " %u %u %c", thread->seat, held->number, letter_of(held->mode));
+    stream_append(true);
     judge_released(thread, held->number, held->mode);
-    stands_no_more(thread, held->number);
-    recorder_leaves();
-}
-
-/* `again SEAT LOCK PLACE`: the thread waits for a lock that it holds. What it holds is written before. */
-COLD void write_waits_for_itself(struct request *request)
-{
-    struct thread *thread = request->thread;
-    if (!recorder_enters())
-        return;
-    count_missed(MISSED_AGAIN);
-    if (stream_has_room() && seat_taken(thread)) {
-        write_chain(thread);
-        if (request->again->written & IS_WRITTEN)
-            write_note(WORD_AGAIN, thread, request->again->number, request->place);
-        seat_given_back(thread);
-    }
-    recorder_leaves();
+    number_stands_no_more(thread, held->number);
 }
 
 /*
- * The thread has the lock as a reader, and has waited for a second to have it once more. When it gets it, the stream has it as
- * given up: what is acquired again isn't in it.
+ * The thread waits for a lock that it holds, and what it holds is written before: `again SEAT LOCK PLACE` where it can't
+ * have it twice. As a reader it has waited for a second, and asks for it; when it gets it, the stream has it as given
+ * up, since what is acquired again isn't in it.
  */
-COLD void write_waits_behind(struct request *request)
+COLD void write_waits_again(struct request *request)
 {
     struct thread *thread = request->thread;
-    if (!recorder_enters())
+    ENTERS_OR(return);
+    if (request->again_refused)
+        count_missed(MISSED_AGAIN);
+    SEATED_OR(thread, return);
+    write_chain(thread);
+    if (!(request->again->written & IS_WRITTEN))
         return;
-    if (stream_has_room() && seat_taken(thread)) {
-        write_chain(thread);
-        if (request->again->written & IS_WRITTEN)
-            write_asked(request, request->again->number, true);
-        seat_given_back(thread);
-    }
-    recorder_leaves();
+    if (request->again_refused)
+        write_note(WORD_AGAIN, thread, request->again->number, request->place);
+    else
+        write_asked(request, request->again->number, true);
 }
 
 /* `went SEAT LOCK`: it waits for that lock no more, which another thread has released. */
 COLD void write_goes_on(const struct request *request)
 {
     const struct held *held = request->again;
-    if (!recorder_enters())
-        return;
-    if ((held->written & IS_WRITTEN) && stream_has_room()) {
-        write_call(WORD_WENT, request->thread, held->number);
-        put_text("\n");
-        stream_append(false);
-    }
-    recorder_leaves();
-}
-
-/* `owner SEAT LOCK THREAD`: whom the lock itself names as its holder, 0 for none, while the seat's thread waits for it. */
-void write_owner(const struct thread *thread, uint32_t lock, int32_t owner)
-{
-    write_call(WORD_OWNER, thread, lock);
-    put_number((uint64_t)owner);
-    put_text("\n");
-    stream_append(false);
+    ENTERS_OR(return);
+    if ((held->written & IS_WRITTEN) && stream_has_room())
+        write_line(WORD_WENT " %u %u", request->thread->seat, held->number);
 }
 
 /* `foreign SEAT LOCK PLACE`: the thread releases what it doesn't hold. One line for each place; all are counted. */
 COLD void write_released_by_another(struct thread *thread, struct lock *lock, uint32_t place)
 {
-    if (!recorder_enters())
-        return;
+    ENTERS_OR(return);
     count_missed(MISSED_RELEASES);
     uint32_t *known = place ? mark(&place_at(place)->releases) : NULL;
-    if (lock && known && !*known && stream_has_room() && seat_taken(thread)) {
-        uint32_t number = lock_number(thread, lock);
-        if (number != 0) {
-            *known = 1;
-            write_note(WORD_FOREIGN, thread, number, place);
-        }
-        seat_given_back(thread);
-    }
-    recorder_leaves();
-}
-
-/* A line of its own: a word, and these numbers. */
-static void write_numbers(const char *word, uint64_t first, uint64_t second, uint64_t third)
-{
-    if (!stream_has_room())
+    if (!lock || !known || *known)
         return;
-    put_text(word);
-    put_number(first);
-    put_number(second);
-    put_number(third);
-    put_text("\n");
-    stream_append(false);
-}
-
-/* The thread's, and its maker's, which may have no order of its own. */
-void write_life(struct thread *thread)
-{
-    write_numbers(WORD_LIFE, (uint64_t)syscall(SYS_gettid), thread->maker, thread->made_at);
-    if (thread->grand != 0)
-        write_numbers(WORD_LIFE, thread->maker, thread->grand, thread->maker_at);
-}
-
-void write_joined(uint32_t joined, uint32_t at)
-{
-    write_numbers(WORD_JOINED, joined, (uint64_t)syscall(SYS_gettid), at);
-}
-
-/* `error WORD SEAT LOCK PLACE`: the words are those of errors, in their order. */
-void write_error(struct thread *thread, enum lock_error error, struct lock *lock, uint32_t place)
-{
-    static const char *const words[] = {
-#define WORD(error, word) [error] = WORD_ERROR " " word,
-        EACH_ERROR(WORD)
-#undef WORD
-    };
-    if (!stream_has_room() || !seat_taken(thread))
-        return;
+    SEATED_OR(thread, return);
     uint32_t number = lock_number(thread, lock);
-    if (number != 0)
-        write_note(words[error], thread, number, place);
-    seat_given_back(thread);
+    if (number == 0)
+        return;
+    *known = 1;
+    write_note(WORD_FOREIGN, thread, number, place);
+}
+
+/* Whether these marks are new in the stream. */
+static bool is_first(struct marks *marks)
+{
+    uint32_t *written = marks ? mark(marks) : NULL;
+    return written && !*written && (*written = 1);
 }
 
 /* `object NUMBER PATH`; then `called NUMBER NAME` where it is told by another name. */
 static void write_object(uint32_t object)
 {
-    uint32_t *written = object ? mark(object_marks(object)) : NULL;
-    if (!written || *written)
+    if (!object || !is_first(object_marks(object)))
         return;
-    *written = 1;
-    put_text(WORD_OBJECT);
-    put_number(object);
-    put_word(object_path(object));
-    put_text("\n");
-    stream_append(false);
-    if (!object_called(object))
-        return;
-    put_text(WORD_CALLED);
-    put_number(object);
-    put_word(object_called(object));
-    put_text("\n");
-    stream_append(false);
+    write_line(WORD_OBJECT " %u %s", object, object_path(object));
+    if (object_called(object))
+        write_line(WORD_CALLED " %u %s", object, object_called(object));
 }
 
-/* `blind OBJECT`: a stack has ended in the object, since its functions can't be unwound. */
-static void write_blind(uint32_t object)
+/*
+ * `place NUMBER OBJECT OFFSET FUNCTION OFFSET-IN-FUNCTION`: of the call's last byte, not of the return address. After `blind
+ * OBJECT` a stack has ended in the object, since its functions can't be unwound.
+ * `either NUMBER PLACE PLACE`: the first one is in the library, and the second one counts where it says nothing.
+ * `site NUMBER FILE LINE FUNCTION`: a place by name.
+ */
+void write_place(uint32_t number)
 {
-    struct marks *marks = object_end_marks(object);
-    uint32_t *written = marks ? mark(marks) : NULL;
-    if (!written || *written)
-        return;
-    *written = 1;
-    put_text(WORD_BLIND);
-    put_number(object);
-    put_text("\n");
-    stream_append(false);
-}
-
-/* `either NUMBER PLACE PLACE`: the first one is in the library, and the second one counts where it says nothing. */
-static void write_either(uint32_t place)
-{
-    const struct place *written = place_at(place);
-    place_number(written->library);
-    place_number(written->rest);
-    put_text(WORD_EITHER);
-    put_number(place);
-    put_number(written->library);
-    put_number(written->rest);
-    put_text("\n");
-    stream_append(false);
-}
-
-/* `site NUMBER FILE LINE FUNCTION`: a place by name. */
-static void write_site(uint32_t place)
-{
-    const struct place *written = place_at(place);
-    put_text(WORD_SITE);
-    put_number(place);
-    put_word(written->file);
-    put_number(written->offset);
-    put_word(written->name);
-    put_text("\n");
-    stream_append(false);
-}
-
-/* `place NUMBER OBJECT OFFSET FUNCTION OFFSET-IN-FUNCTION`: of the call's last byte, not of the return address. */
-void write_place(uint32_t place)
-{
-    const struct place *written = place_at(place);
-    if (written->library) {
-        write_either(place);
+    const struct place *place = place_at(number);
+    if (place->library) {
+        place_number(place->library);
+        place_number(place->rest);
+        write_line(WORD_EITHER " %u %u %u", number, place->library, place->rest);
         return;
     }
-    if (written->file) {
-        write_site(place);
+    if (place->file) {
+        write_line(WORD_SITE " %u %s %lu %s", number, place->file, place->offset, place->name);
         return;
     }
-    write_object(written->object);
-    write_blind(written->object);
-    put_text(WORD_PLACE);
-    put_number(place);
-    put_number(written->object);
-    put_hexadecimal((written->object ? written->offset : written->pc) - 1);
-    put_word(written->name);
-    put_hexadecimal(*written->name ? written->within - 1 : 0);
-    put_text("\n");
-    stream_append(false);
+    write_object(place->object);
+    if (is_first(object_end_marks(place->object)))
+        write_line(WORD_BLIND " %u", (uint32_t)place->object);
+    write_line(WORD_PLACE " %u %u %lx %s %lx", number, (uint32_t)place->object,
+        (place->object ? place->offset : place->pc) - 1, place->name, *place->name ? place->within - 1 : 0);
 }
 
 /*
@@ -568,27 +373,15 @@ static void put_variable(uint32_t object, uintptr_t address)
     uintptr_t from = address;
     uint64_t size;
     const char *name = object_symbol(object, address, false, &from, &size);
-    put_number(object);
-    put_hexadecimal(object_offset(object, address));
-    put_word(name);
-    put_hexadecimal(address - from);
-    put_word(object_symbol_file(object, address));
+    line_put(" %u %lx %s %lx %s", object, object_offset(object, address), name, address - from,
+        object_symbol_file(object, address));
 }
 
-/* `crowded NUMBER`: the type of that number counts as one without an offset. */
-static void put_crowded(struct type *type)
-{
-    put_text(WORD_CROWDED);
-    put_number(*mark(&type->marks));
-    put_text("\n");
-    stream_append(false);
-}
-
-/* Where it stands in a stream; else that comes with the type. */
+/* `crowded NUMBER`: the type of that number counts as one without an offset. One that has no number gets it with that. */
 void write_crowded(struct type *type)
 {
     if (*mark(&type->marks) != 0 && type_fits(type) && stream_has_room())
-        put_crowded(type);
+        write_line(WORD_CROWDED " %u", *mark(&type->marks));
 }
 
 static uint32_t places_in(const uint32_t places[DEPTH_MOST])
@@ -599,20 +392,9 @@ static uint32_t places_in(const uint32_t places[DEPTH_MOST])
     return count;
 }
 
-/* ` part OFFSET COUNT`, and so many places of a first use. */
-static void put_part(const struct type *type)
-{
-    uint32_t uses = places_in(type->uses);
-    put_text(" " WORD_PART);
-    put_hexadecimal(type->part - 1);
-    put_number(uses);
-    for (uint32_t i = 0; i < uses; i++)
-        put_number(type->uses[i]);
-}
-
 /*
- * `type NUMBER variable` and the variable of its first lock, `type NUMBER named NAME`, `type NUMBER part` and what is told of
- * its block, `type NUMBER met` or `type NUMBER made`; then the places that it comes from.
+ * `type NUMBER variable` and the variable of its first lock, `type NUMBER named NAME`, `type NUMBER part OFFSET COUNT`
+ * and so many places of a first use, `type NUMBER met` or `type NUMBER made`; then the places that it comes from.
  */
 void write_type(struct type *type)
 {
@@ -622,43 +404,33 @@ void write_type(struct type *type)
         place_number(type->places[i]);
         place_number(type->uses[i]);
     }
-    put_text(WORD_TYPE);
-    put_number(*mark(&type->marks));
+    line_put(WORD_TYPE " %u", *mark(&type->marks));
     if (type->part)
-        put_part(type);
+        line_put(" " WORD_PART " %lx %u", type->part - 1, places_in(type->uses));
     else
-        put_text(type->label ? " " WORD_NAMED : object ? " " WORD_VARIABLE : type->met ? " " WORD_MET : " " WORD_MADE);
+        line_put(" %s", type->label ? WORD_NAMED : object ? WORD_VARIABLE : type->met ? WORD_MET : WORD_MADE);
+    for (uint32_t i = 0; i < places_in(type->uses) && type->part; i++)
+        line_put(" %u", type->uses[i]);
     if (type->label)
-        put_word(type->label);
+        line_put(" %s", type->label);
     if (object)
         put_variable(object, type->address);
-    for (uint32_t i = 0; i < DEPTH_MOST && type->places[i]; i++)
-        put_number(type->places[i]);
-    put_text("\n");
+    for (uint32_t i = 0; i < places_in(type->places); i++)
+        line_put(" %u", type->places[i]);
     stream_append(false);
     if (type->crowded)
-        put_crowded(type);
+        write_crowded(type);
 }
 
 /* `init SEAT CLASS FLAGS TYPE`, its name's number among those of its type, and the variable that it stands in. */
 void write_init(struct thread *thread, struct lock *lock)
 {
     struct type *type = lock->type;
-    uintptr_t address = atomic_load(&lock->address);
-    uint32_t object = type->object;
-    put_text(WORD_INIT);
-    put_number(thread->seat);
-    put_text(type->class == RWLOCK || type->class == TOLD_RWLOCK ? " rw " : " mtx ");
-    if (lock->recursive)
-        put_text(INIT_RECURSIVE);
-    if (lock->shared)
-        put_text(INIT_SHARED);
-    if (!lock->recursive && !lock->shared)
-        put_text(NO_NAME);
-    put_number(*mark(&type->marks));
-    put_number(lock->name->number);
-    if (object)
-        put_variable(object, address);
-    end_call();
+    const char *const flags[] = {"", INIT_RECURSIVE, INIT_SHARED, INIT_RECURSIVE INIT_SHARED};
+    line_put(WORD_INIT " %u %s %s %u %u", thread->seat, type->class == RWLOCK || type->class == TOLD_RWLOCK ? "rw" : "mtx",
+        flags[lock->recursive + 2 * lock->shared], *mark(&type->marks), lock->name->number);
+    if (type->object)
+        put_variable(type->object, atomic_load(&lock->address));
+    stream_append(true);
     judge_made(thread, lock);
 }

@@ -138,3 +138,41 @@ END
         tell steered "$words is refused" $?
     done
 fi
+
+# instructions ROUNDS [PLAN]: how many `pairs` takes in a steered run by that plan.
+instructions() {
+    rm -rf records && mkdir records
+    env RECORDER_DIRECTORY="$work/records" RECORDER_FRAMES=1 RECORDER_PLAN="${2-}" LD_PRELOAD="$object" valgrind --tool=callgrind \
+        --callgrind-out-file=/dev/null ./pairs 2 1 "$1" 2>&1 | sed -n 's/.*Collected : //p'
+}
+
+# a_pair [PLAN]: the instructions of a hundred pairs of lock and unlock.
+a_hundred_pairs() {
+    few=$(instructions 1000 "$@") && many=$(instructions 6000 "$@") && echo $(((many - few) / 100))
+}
+
+# What isn't in the plan costs nothing. By one that has each request pause a pair takes longer, so that it is seen.
+if wanted elsewhere; then
+    if command -v valgrind >/dev/null 2>&1; then
+        object=$(object_of new)
+        compile pairs -O2 && compile elsewhere && ./elsewhere plan 0 && ./elsewhere noise 1
+        without=$(a_hundred_pairs) && with=$(a_hundred_pairs "$work/plan") && noisy=$(a_hundred_pairs "$work/noise")
+        echo "$without without a plan, $with with one, $noisy where all pause" >counted
+        [ "${without:-0}" -gt 10000 ] && [ $((with - without)) -lt 50 ] && [ $((without - with)) -lt 50 ] && [ "$noisy" -gt $((2 * without)) ]
+        tell elsewhere "a hundred pairs of lock and unlock take no instruction more at places that no plan names" $? || cat counted
+    else
+        echo "left out  elsewhere: there is no valgrind"
+    fi
+fi
+
+# Threads pause before locks that the program tells of, and before semaphores, too. These name no holder.
+if wanted toldlocks; then
+    compile toldlocks
+    for words in "" "--semaphores"; do
+        RECORD_FRAMES=8 timeout 100 "$record" $words --confirm=2 --confirm-time 20 -- ./toldlocks $words >recorded.out 2>recorded.err </dev/null
+        grep -q 'not confirmed in 2 runs: @ [^ ]*toldlocks.c:41 was reached [1-9]\|not confirmed: seemed to hang in run [12], but not each lock says who holds it' recorded.err &&
+            ! grep -q 'was never reached' recorded.err
+        tell toldlocks "a steered run comes to locks that aren't pthread's${words:+ ($words)}" $? || cat recorded.err
+    done
+    words=
+fi
