@@ -89,7 +89,7 @@ if needs icecast2 icecast2 ffmpeg curl; then
 END
     chmod 777 "$work"
     load() {
-        within curl -sf http://127.0.0.1:18000/status.xsl
+        within curl -sf http://127.0.0.1:18000/status.xsl || return
         ffmpeg -loglevel error -re -f lavfi -i sine=duration=20 -c:a libvorbis -f ogg icecast://source:s@127.0.0.1:18000/x.ogg &
         source=$!
         sleep 4
@@ -137,15 +137,12 @@ if needs knotd knotd kdig knotc; then
     for zone in a b; do
         printf '$ORIGIN %s.test.\n@ 60 SOA ns h 1 60 60 60 60\n@ 60 NS ns\nns 60 A 127.0.0.1\nw 60 A 127.0.0.2\n' $zone >$zone.zone
     done
-    cat >knot.conf <<END
-server: { rundir: $work, listen: 127.0.0.1@15353 }
-database: { storage: $work/db }
-zone:
-  - { domain: a.test, file: $work/a.zone }
-  - { domain: b.test, file: $work/b.zone }
-END
+    printf 'server:\n    rundir: %s\n    listen: 127.0.0.1@15353\ndatabase:\n    storage: %s/db\nzone:\n' "$work" "$work" >knot.conf
+    printf '  - domain: a.test\n    file: %s/a.zone\n' "$work" >>knot.conf
+    cp knot.conf knot.less
+    printf '  - domain: b.test\n    file: %s/b.zone\n' "$work" >>knot.conf
     load() {
-        within kdig @127.0.0.1 -p 15353 w.a.test
+        within timeout 2 kdig @127.0.0.1 -p 15353 w.a.test || return
         for i in $(seq 1 370); do
             kdig @127.0.0.1 -p 15353 w.a.test ns.b.test >/dev/null
         done &
@@ -157,7 +154,7 @@ END
         knotc -c knot.conf zone-begin b.test
         knotc -c knot.conf zone-set b.test v 60 A 127.0.0.3
         knotc -c knot.conf zone-commit b.test
-        sed -i '/domain: b.test/d' knot.conf
+        cp knot.less knot.conf
         knotc -c knot.conf reload
         sleep 20
         knotc -c knot.conf stop
@@ -182,7 +179,7 @@ if needs mariadbd mariadbd mysqlslap mariadb mariadb-install-db; then
     chmod 777 "$work"
     mariadb-install-db --no-defaults --datadir="$work/db" --auth-root-authentication-method=normal >first 2>&1
     load() {
-        within mariadb --no-defaults -uroot -S"$work/sock" -e 'select 1'
+        within mariadb --no-defaults -uroot -S"$work/sock" -e 'select 1' || return
         mysqlslap --no-defaults -uroot -S"$work/sock" -a -c 6 -i 2 --number-of-queries=600
         for engine in InnoDB Aria MyISAM InnoDB; do
             {
@@ -200,7 +197,7 @@ if needs unbound unbound dig; then
     printf 'server:\n num-threads: 4\n interface: 127.0.0.1\n port: 15354\n chroot: ""\n username: ""\n directory: "%s"\n pidfile: "%s/pid"\n local-zone: "x.test." static\n local-data: "w.x.test. A 127.0.0.2"\nremote-control:\n control-enable: yes\n control-interface: %s/ctl\n control-use-cert: no\n' \
         "$work" "$work" "$work" >unbound.conf
     load() {
-        within dig @127.0.0.1 -p 15354 w.x.test
+        within timeout 2 dig @127.0.0.1 -p 15354 w.x.test || return
         for i in 1 2 3 4; do
             for j in $(seq 1 460); do dig +tries=1 +time=1 @127.0.0.1 -p 15354 w.x.test >/dev/null; done &
         done
@@ -215,7 +212,7 @@ if needs unbound unbound dig; then
 fi
 if needs redis redis-server redis-benchmark; then
     load() {
-        within redis-cli -p 16379 ping
+        within redis-cli -p 16379 ping || return
         redis-benchmark -p 16379 -q -c 20 -n 20000 -t set,get,lpush
         redis-cli -p 16379 bgsave
         sleep 3
@@ -236,7 +233,7 @@ if needs pulseaudio pulseaudio pactl; then
     mkdir -p run && chmod 700 run
     load() {
         export XDG_RUNTIME_DIR=$work/run HOME=$work
-        within pactl info
+        within pactl info || return
         pactl load-module module-null-sink sink_name=one
         pactl load-module module-null-sink sink_name=two
         pactl load-module module-combine-sink slaves=one,two
