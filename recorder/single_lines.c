@@ -39,6 +39,7 @@ static void put_pair(const struct request *request, const struct held *held, con
     put_number(thread->seat);
     put_number((uint64_t)syscall(SYS_gettid));
     put_number(atomic_load(&threads_made_and_joined));
+    put_number(request->place);
     put_lock(thread, held->lock, held->mode == SHARED, held->tried ? "t" : "");
     put_text(is_acquired_under(held, request->lock) ? "u" : "");
     put_lock(thread, request->lock, request->mode == SHARED,
@@ -61,6 +62,7 @@ void write_pair(const struct request *request, const struct held *held, const st
     if (!stream_has_room())
         return;
     seat_found(thread);
+    place_number(request->place);
     declare(thread, held->lock);
     declare(thread, request->lock);
     for (uint32_t i = 0; i < BESIDES; i++)

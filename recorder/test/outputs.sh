@@ -9,8 +9,8 @@ build_driver() {
     folder=$2
     shift 2
     sources=
-    for module in alarms alarm_words describe escape findings hang html html_card html_parts json layout layout_rows map memory notes objects orders page \
-        picture place report sarif sarif_place sarif_result single single_graph texts thread_label; do
+    for module in alarms describe escape findings hang html html_card html_parts json layout layout_rows map memory notes objects orders page \
+        picture place report sarif sarif_place sarif_result single texts thread_label; do
         sources="$sources $recorder/command/$module.c"
     done
     mkdir -p "$folder" && (cd "$folder" && "$compiler" -std=c11 -D_GNU_SOURCE -g -Wall -Wextra -Werror \
