@@ -8,7 +8,7 @@
 #include "memory.h"
 #include "tool.h"
 
-enum { ANSWERS_MOST = 1 << 26 };
+enum { ANSWERS_MOST = 1 << 26, BRIEF_PATIENCE = 2000 };
 
 static const char *const reasons[REASONS] = {"thread", "gate", "readers", "timed", "apart", "waits"};
 
@@ -312,7 +312,7 @@ static struct question *questions_of(struct reports *reports, size_t *count)
     return question;
 }
 
-void grade_reports(struct reports *reports, const char *grader)
+void grade_reports(struct reports *reports, const char *grader, bool briefly)
 {
     size_t count;
     struct grading grading = {.notes = reports->notes};
@@ -321,8 +321,11 @@ void grade_reports(struct reports *reports, const char *grader)
         return;
     reports->are_graded = true;
     struct question *question = questions_of(reports, &count);
-    if (count > 0 && grader && tool_starts(&grading.tool, words))
+    if (count > 0 && grader && tool_starts(&grading.tool, words)) {
+        if (briefly)
+            grading.tool.patience = BRIEF_PATIENCE;
         ask(&grading, question, count);
+    }
     for (size_t i = 0; i < count; i++) {
         grade(&grading, &question[i], grader ? UNKNOWN_UNANSWERED : UNKNOWN_UNASKED);
         free((void *)question[i].fact);

@@ -9,8 +9,8 @@
 
 /*
  * Grades each report of an order, once, by one run of that program; NULL where it doesn't stand built. Where it says
- * nothing, ends, or takes half a minute for an answer, what is left isn't known.
+ * nothing, ends, or takes half a minute for an answer, what is left isn't known. BRIEFLY: or two seconds, since others wait.
  */
-void grade_reports(struct reports *reports, const char *grader);
+void grade_reports(struct reports *reports, const char *grader, bool briefly);
 
 #endif

@@ -66,12 +66,18 @@ static void keep_told(struct process *process, const struct report *report, char
     }
 }
 
+/* While the program runs, a deadlock may have to be seen meanwhile. */
+static void grade(struct process *process)
+{
+    grade_reports(&process->reports, process->run->settings.grader, process->is_followed);
+}
+
 /* The report, with what is to stand below it. */
 static void write_report(struct process *process, const struct report *report, FILE *to)
 {
     struct run *run = process->run;
     report_write(to, report, run->settings.frames > 1, run->settings.suppressions);
-    grade_reports(&process->reports, run->settings.grader);
+    grade(process);
     char *text = alarm_text(&report->alarm);
     if (run->settings.frames > 1 && *text)
         fprintf(to, "%s\n", text);
@@ -85,7 +91,7 @@ static void write_report(struct process *process, const struct report *report, F
 static void tell_alarm(struct process *process, const struct report *report, const char *before)
 {
     struct run *run = process->run;
-    grade_reports(&process->reports, run->settings.grader);
+    grade(process);
     char *text = alarm_text(&report->alarm), *about = report_about(report);
     if (*before && strcmp(before, text) != 0 && run->settings.frames > 1)
         say(&run->output, "by now, of %s: %s", about, text);
@@ -108,7 +114,7 @@ static bool was_told(struct process *process, const struct report *report)
 static unsigned long alarms_counted(struct process *process)
 {
     unsigned long count = 0;
-    grade_reports(&process->reports, process->run->settings.grader);
+    grade(process);
     for (size_t i = 0; i < process->reports.count; i++) {
         const struct report *report = &process->reports.report[i];
         count += (report->kind == REPORT_REVERSAL || report->kind == REPORT_DUPLICATE)

@@ -87,6 +87,11 @@ if wanted alarms; then
     graded "a program that says what it reads" cat "$unanswered"
     graded "a program that names facts that there aren't" 'sed -u "s/^grade$/same 0 77/;t;d"' "$unanswered"
     graded "a program that hangs" 'exec sleep 300' "$unanswered"
+    compile deadlock
+    WITNESS=$work/grader "$record" --on-deadlock kill -- ./deadlock 2>recorded.err >/dev/null &
+    within grep -q ' is ended: its threads wait for one another$' recorded.err
+    tell alarms "a deadlock is seen while such a program has no answer" $?
+    wait $!
     graded "facts are missing" 'sed -u "s/^grade$/unknown/;t;d"' 'there were more orders of such locks than are kept'
     mkdir -p top/tools top/bin top/crates/witness/out && printf '#!/bin/sh\nexit 1\n' >top/tools/build && cp top/tools/build top/bin/rt &&
         printf '#!/bin/sh\nexec "%s" "$@"\n' "$WITNESS" >top/witness && chmod +x top/tools/build top/bin/rt top/witness
