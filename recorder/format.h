@@ -7,7 +7,7 @@
 #define RECORDER_FORMAT_H
 
 /* The first line of a stream is `asked 0 version N missed`, then the names of the counts, each with its count. */
-#define FORMAT_VERSION 6
+#define FORMAT_VERSION 7
 #define WORD_ASKED "asked"
 #define WORD_VERSION "version"
 #define WORD_MISSED "missed"

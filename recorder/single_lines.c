@@ -37,7 +37,7 @@ static void put_pair(const struct request *request, const struct held *held, con
     bool again)
 {
     struct thread *thread = request->thread;
-    line_put(WORD_PAIR " %u %u %u", thread->seat, (uint32_t)gettid(), atomic_load(&threads_made_and_joined));
+    line_put(WORD_PAIR " %u %u %u %u", thread->seat, (uint32_t)gettid(), atomic_load(&threads_made_and_joined), request->place);
     put_lock(thread, held->lock, held->mode == SHARED, held->tried ? "t" : "");
     put_letters(is_acquired_under(held, request->lock) ? "u" : "");
     put_lock(thread, request->lock, request->mode == SHARED,
@@ -59,6 +59,7 @@ void write_pair(const struct request *request, const struct held *held, const st
     if (!stream_has_room())
         return;
     seat_found(thread);
+    place_number(request->place);
     declare(thread, held->lock);
     declare(thread, request->lock);
     for (uint32_t i = 0; i < BESIDES; i++)

@@ -2,8 +2,8 @@
  * The pairs of single locks. A trace tells of types. Whether these very locks were taken both ways, by which threads, and
  * what else was held meanwhile is told by lines of their own:
  *
- *   pair SEAT THREAD AT HELD ASKED BESIDE..  the thread, as the kernel counts, asked for the second of these locks while it
- *                             held the first. Each time that a thread did so, it held the others, too
+ *   pair SEAT THREAD AT PLACE HELD ASKED BESIDE..  the thread, as the kernel counts, asked there for the second of these
+ *                             locks while it held the first. Each time that a thread did so, it held the others, too
  *   life THREAD MAKER AT      before its first pair: who made the thread, 0 where that isn't known, and when
  *   joined THREAD BY AT       it was joined by that one, and when
  *   many 0                    no further pairs are told of

@@ -152,17 +152,11 @@ void confirm_subjects(struct run *run, struct subject *subject, size_t count)
 
 /* The reports of this run. */
 
-/* What keeps its orders apart, as far as it was seen. */
-static bool has_word(const struct alarm *alarm)
-{
-    return alarm->gate || alarm->readers || alarm->timed || alarm->apart != NOT_APART;
-}
-
 static int compare_findings(const void *left, const void *right)
 {
     const struct finding *one = *(struct finding *const *)left, *other = *(struct finding *const *)right;
-    if (has_word(&one->alarm) != has_word(&other->alarm))
-        return has_word(&one->alarm) ? 1 : -1;
+    if (alarm_has_word(&one->alarm) != alarm_has_word(&other->alarm))
+        return alarm_has_word(&one->alarm) ? 1 : -1;
     int difference = alarm_mildness(&one->alarm) - alarm_mildness(&other->alarm);
     return difference ? difference : (one > other) - (one < other);
 }

@@ -122,20 +122,18 @@ static struct finding *find_equal(struct findings *findings, const struct report
 }
 
 /* A process may have taken single locks both ways where another one hasn't. */
-static void grade(struct finding *finding, const struct report *report, const struct notes *notes)
+static void grade(struct finding *finding, const struct alarm *alarm)
 {
-    struct alarm alarm = alarm_of(report, notes);
-    if (finding->single && alarm_mildness(&alarm) >= alarm_mildness(&finding->alarm))
+    if (finding->single && alarm_mildness(alarm) >= alarm_mildness(&finding->alarm))
         return;
     free(finding->single);
-    finding->alarm = alarm;
-    finding->single = alarm_text(&alarm);
+    finding->alarm = *alarm;
+    finding->single = alarm_text(alarm);
 }
 
 static void gather(struct findings *findings, const struct found *found, const struct reports *reports,
                    bool is_silenced)
 {
-    const struct notes *notes = is_silenced ? &found->silenced_notes : &found->notes;
     for (size_t i = 0; i < reports->count; i++) {
         const struct report *report = &reports->report[i];
         struct finding *finding = find_equal(findings, report, is_silenced);
@@ -144,8 +142,8 @@ static void gather(struct findings *findings, const struct found *found, const s
             *finding = (struct finding){.found = found, .report = report, .is_silenced = is_silenced};
             make_fingerprint(finding);
         }
-        grade(finding, report, notes);
-        finding->counts = !is_silenced && alarm_counts(&findings->alarms, report, &finding->alarm);
+        grade(finding, &report->alarm);
+        finding->counts = !is_silenced && alarm_counts(&findings->alarms, &finding->alarm);
         if (finding->processes == 0 || finding->process[finding->processes - 1] != found->process)
             ADD(finding->process, finding->processes, finding->room) = found->process;
     }

@@ -6,6 +6,7 @@
 
 #include "confirm.h"
 #include "errors.h"
+#include "grades.h"
 #include "html.h"
 #include "json.h"
 #include "memory.h"
@@ -66,6 +67,7 @@ static void take_silenced(struct process *process, struct found *found)
     if (found->notes.matches == 0)
         return;
     replay_without_ignore(process->run, process->recording, &all, &found->silenced_notes);
+    grade_reports(&all, process->run->settings.grader, false);
     for (size_t i = 0; i < all.count; i++) {
         struct report *report = &all.report[i];
         if (!report->silence || is_among(&found->reports, report))

@@ -216,6 +216,13 @@ static void write_single(struct objects *to, const struct finding *finding)
     object_truth(to, "readers", alarm->readers);
     object_truth(to, "timed", alarm->timed);
     object_truth(to, "apart", alarm->apart);
+    object_open(to, "elsewhere", '[');
+    for (size_t i = 0; i < alarm->elsewheres; i++) {
+        object_open(to, NULL, '{');
+        write_site(to, alarm->elsewhere[i]);
+        object_close(to, '{');
+    }
+    object_close(to, '[');
     object_text(to, "text", finding->single);
     object_close(to, '{');
 }

@@ -41,6 +41,16 @@ static void announce_trial(const char *witness, const char *top)
     setenv("WITNESS_TRIAL", "told", 1);
 }
 
+/* One that was built of earlier sources is as good for that: it was proved, too. NULL where there is none. */
+static char *grader_in(const char *top)
+{
+    char *built = say_text("%s/crates/witness/out/witness", top);
+    if (file_is_command(built))
+        return built;
+    free(built);
+    return NULL;
+}
+
 /* Whether it accepts that word, and that line after a header. */
 static bool knows(const char *witness, const char *word, const char *line)
 {
@@ -59,12 +69,14 @@ void replayer_check(struct settings *settings)
     char *top = trial_of(witness);
     if (top) {
         announce_trial(witness, top);
+        settings->grader = grader_in(top);
         free(top);
         settings->quiet = true;
         return;
     }
     if (brief_run(words, "", false) >= NOT_RUN)
         fail("%s can't be run: nothing was run", witness);
+    settings->grader = witness;
     if (settings->judge && !knows(witness, "migrate", ""))
         fail("%s doesn't know --judge: nothing was run", witness);
 }

@@ -8,7 +8,7 @@
 
 /*
  * Fails where it can't be run, or doesn't know what was asked for. `settings->witness` is as it was named. A trial takes a
- * minute, so with it nothing is told before the end.
+ * minute, so with it nothing is told before the end, and grades are asked of no other than a program that stands built.
  */
 void replayer_check(struct settings *settings);
 

@@ -9,6 +9,7 @@
 #include <stddef.h>
 #include <stdio.h>
 
+#include "alarms.h"
 #include "notes.h"
 
 /* A line of a report. Texts that a kind of line hasn't are NULL. */
@@ -50,6 +51,7 @@ struct report {
     size_t first, last;       /* the numbers of the lines of the two locks whose types are at odds; 0 where there is none */
     bool is_over;             /* the thread that waited for itself went on */
     char *silence;            /* the line of an ignore file that would silence it; NULL where none would */
+    struct alarm alarm;       /* how much it is to be feared, once the reports are graded (grades.h) */
 };
 
 /* The texts and numbers point into the notes. */
@@ -57,6 +59,7 @@ struct reports {
     const struct notes *notes;
     struct report *report;
     size_t count, room;
+    bool are_graded;
 };
 
 /* Adds what the verifier has told. */

@@ -20,6 +20,7 @@ struct settings {
     const char *run_name;  /* --run-name NAME: what the run is called in a file of orders */
     const char *program_name; /* --program-name NAME: what the program's own object is called there */
     const char *witness;   /* the program that replays */
+    const char *grader;    /* the one that grades; NULL where it doesn't stand built */
     const char *acyclic;   /* the program that checks that orders have no circle */
     const char *program;   /* the program's name, as it is told */
     const char *misfit;    /* why the program can't be recorded, where that is known */

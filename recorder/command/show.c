@@ -196,7 +196,7 @@ struct run *show_begins(const struct settings *settings, const char *work, const
     struct run *run = take(sizeof *run);
     run->settings = *settings;
     run->settings.progress = false;
-    run->alarms_wanted.least_of_duplicates = GRADE_ONE_THREAD;
+    run->alarms_wanted = alarms_usual;
     if (is_asked(settings->alarms))
         alarms_words(settings->alarms, &run->alarms_wanted);
     run->work = work;

@@ -68,7 +68,6 @@ static struct single_pair *place_of(struct single *single, const struct single_p
     if (*number == 0) {
         ADD(single->pair, single->pairs, single->pair_room) = *pair;
         *number = single->pairs;
-        single->pair[*number - 1].number = *number;
     }
     return &single->pair[*number - 1];
 }
@@ -113,31 +112,40 @@ static struct single_deed *deed_of(struct single_pair *pair, long thread)
     return NULL;
 }
 
-/* FURTHER: two threads had done so by then. This may be one of them, or have the number of one that has ended. */
-static void add_deed(struct single_pair *pair, const struct single_deed *deed, bool further)
+/*
+ * FURTHER: two threads had done so by then. This may be one of them, or have the number of one that has ended. The answer is
+ * NULL where it isn't new.
+ */
+static struct single_deed *add_deed(struct single_pair *pair, const struct single_deed *deed, bool further)
 {
     struct single_deed *known = deed_of(pair, deed->thread);
     if (further && !pair->further)
         pair->further = deed->thread;
     if (known && deed->last > known->last)
         known->last = deed->last;
-    if (!known && !further && pair->deeds < sizeof pair->deed / sizeof *pair->deed)
-        pair->deed[pair->deeds++] = *deed;
+    if (known || further || pair->deeds == sizeof pair->deed / sizeof *pair->deed)
+        return NULL;
+    pair->deed[pair->deeds++] = *deed;
+    return &pair->deed[pair->deeds - 1];
 }
 
-static void read_pair(struct single *single, const char *at, const char *end)
+static struct single_deed *read_pair(struct single *single, const char *at, const char *end)
 {
     struct single_pair told = {.how = SINGLE_PLAINLY};
-    unsigned long seat, thread, when;
+    unsigned long seat, thread, when, place;
     if (!read_number(&at, end, &seat) || !read_number(&at, end, &thread) || !read_number(&at, end, &when)
-        || !read_locks(single, &told, at, end))
-        return;
+        || !read_number(&at, end, &place) || !read_locks(single, &told, at, end)) {
+        single->is_full = true;
+        return NULL;
+    }
     bool further = told.further;
     told.further = 0;
     struct single_pair *pair = place_of(single, &told);
     meet_besides(pair, &told);
     take_numbers(pair, &told);
-    add_deed(pair, &(struct single_deed){(long)thread, when, when}, further);
+    struct single_deed *deed
+        = add_deed(pair, &(struct single_deed){(long)thread, when, when, (uint32_t)place, NULL}, further);
+    return told.held.type == told.asked.type ? deed : NULL;
 }
 
 static bool begins(const char **at, const char *end, const char *word)
@@ -155,13 +163,13 @@ static bool read_three(const char *at, const char *end, unsigned long number[3])
         && at == end;
 }
 
-void single_read(struct single *single, const char *line, size_t length)
+struct single_deed *single_read(struct single *single, const char *line, size_t length)
 {
     const char *at = line, *end = line + length;
     unsigned long number[3];
     if (begins(&at, end, WORD_PAIR))
-        read_pair(single, at, end);
-    else if (begins(&at, end, WORD_MANY))
+        return read_pair(single, at, end);
+    if (begins(&at, end, WORD_MANY))
         single->is_full = true;
     else if (begins(&at, end, WORD_LIFE) && read_three(at, end, number))
         ADD(single->life, single->lives, single->life_room)
@@ -169,16 +177,7 @@ void single_read(struct single *single, const char *line, size_t length)
     else if (begins(&at, end, WORD_JOINED) && read_three(at, end, number))
         ADD(single->join, single->joins, single->join_room)
             = (struct single_join){(long)number[0], (long)number[1], number[2]};
-}
-
-static int by_locks(const void *left, const void *right)
-{
-    const struct single_pair *one = left, *other = right;
-    if (one->held.type != other->held.type)
-        return one->held.type < other->held.type ? -1 : 1;
-    if (one->held.serial != other->held.serial)
-        return one->held.serial < other->held.serial ? -1 : 1;
-    return one->number < other->number ? -1 : one->number > other->number;
+    return NULL;
 }
 
 static int by_numbers(unsigned long one, unsigned long other)
@@ -194,22 +193,11 @@ static int by_thread(const void *left, const void *right)
     return order ? order : by_numbers(one->made_at, other->made_at);
 }
 
-static int by_joined(const void *left, const void *right)
-{
-    const struct single_join *one = left, *other = right;
-    int order = by_numbers((unsigned long)one->thread, (unsigned long)other->thread);
-    return order ? order : by_numbers(one->at, other->at);
-}
-
 void single_sort(struct single *single)
 {
     map_end(&single->by_key);
-    if (single->pairs > 0)
-        qsort(single->pair, single->pairs, sizeof *single->pair, by_locks);
     if (single->lives > 0)
         qsort(single->life, single->lives, sizeof *single->life, by_thread);
-    if (single->joins > 0)
-        qsort(single->join, single->joins, sizeof *single->join, by_joined);
 }
 
 void single_end(struct single *single)
@@ -241,72 +229,12 @@ static size_t life_from(const struct single *single, long thread)
     return from;
 }
 
-/* Whether the kernel gave the number to a second thread: two lives of it then disagree. */
-static bool is_reused(const struct single *single, long thread)
+/* Two lives of it then disagree. */
+bool single_is_reused(const struct single *single, long thread)
 {
     size_t first = life_from(single, thread);
     for (size_t i = first; i < single->lives && single->life[i].thread == thread; i++)
         if (by_thread(&single->life[i], &single->life[first]) != 0)
             return true;
     return false;
-}
-
-/* The thread's life; NULL where none is told of, or of two threads with that number. */
-static const struct single_life *life_of(const struct single *single, long thread)
-{
-    size_t first = life_from(single, thread);
-    bool is_there = first < single->lives && single->life[first].thread == thread;
-    return is_there && !is_reused(single, thread) ? &single->life[first] : NULL;
-}
-
-/* The first join of a thread of that number or a higher one. */
-static size_t join_from(const struct single *single, long thread)
-{
-    size_t from = 0, to = single->joins;
-    while (from < to) {
-        size_t middle = from + (to - from) / 2;
-        if (single->join[middle].thread < thread)
-            from = middle + 1;
-        else
-            to = middle;
-    }
-    return from;
-}
-
-bool single_is_before(const struct single *single, const struct single_deed *one, const struct single_deed *other)
-{
-    if (is_reused(single, one->thread) || is_reused(single, other->thread))
-        return false;
-    for (size_t i = join_from(single, one->thread); i < single->joins && single->join[i].thread == one->thread; i++) {
-        const struct single_join *join = &single->join[i];
-        if (is_reused(single, join->by))
-            continue;
-        if (join->by == other->thread && join->at < other->first)
-            return true;
-        size_t steps = 0;
-        for (const struct single_life *life = life_of(single, other->thread); life && steps <= single->lives; steps++) {
-            if (life->maker == join->by && life->maker != 0 && join->at < life->made_at)
-                return true;
-            life = life_of(single, life->maker);
-        }
-    }
-    return false;
-}
-
-bool single_is_early(const struct single *single, const struct single_deed *one, const struct single_deed *other)
-{
-    if (single->lost > 0 || one->last >= PAIR_TELLINGS - 1 || is_reused(single, one->thread))
-        return false;
-    size_t steps = 0;
-    for (const struct single_life *life = life_of(single, other->thread); life && steps <= single->lives; steps++) {
-        if (life->maker == one->thread && life->maker != 0)
-            return one->last <= life->made_at;
-        life = life_of(single, life->maker);
-    }
-    return false;
-}
-
-bool single_is_first(const struct single *single, const struct single_deed *deed)
-{
-    return single->lost == 0 && deed->last == 0;
 }

@@ -24,6 +24,8 @@ struct single_lock {
 struct single_deed {
     long thread; /* as the kernel counts */
     unsigned long first, last;
+    uint32_t place;   /* where it first did so, by the file's number */
+    const char *site; /* and in the source; NULL where nobody asked for it */
 };
 
 /* The one lock was asked for while the other was held. */
@@ -35,8 +37,7 @@ struct single_pair {
     size_t besides;
     struct single_deed deed[2];
     size_t deeds;
-    long further;  /* a third thread that made it; there may be others, and when they did so isn't known. 0 for none */
-    size_t number; /* among those of the file: which one was told of first */
+    long further; /* a third thread that made it; there may be others, and when they did so isn't known. 0 for none */
 };
 
 struct single_life {
@@ -63,37 +64,26 @@ struct single {
     struct map by_key;        /* where each pair is, from 1 on; empty after single_sort */
     bool is_full;             /* there may be further pairs */
     unsigned long lost;       /* calls for which the file had no room, or what their thread holds */
-    struct single_life *life;
+    struct single_life *life; /* by their threads, after single_sort */
     size_t lives, life_room;
     struct single_join *join;
     size_t joins, join_room;
 };
 
 /*
- * Takes in a line, if it is one of these words; a malformed one is passed over. What is told of one pair is put together:
- * its threads, and what was held besides each time. The types are there by then.
+ * Takes in a line, if it is one of these words; after a malformed one pairs may be missing. What is told of one pair is put
+ * together: its threads, and what was held besides each time. The types are there by then. The answer is what is new by the
+ * line of a pair of two locks of one type: its site is still to be set. It stands until the next line.
  */
-void single_read(struct single *single, const char *line, size_t length);
-/* After the last line: sorts the pairs by the held lock's type and serial number, then by the file's order; threads, too. */
+struct single_deed *single_read(struct single *single, const char *line, size_t length);
+/* After the last line. */
 void single_sort(struct single *single);
 void single_end(struct single *single);
 
 /* Whether pairs of single locks may be missing. */
 bool single_lacks_pairs(const struct single *single);
 
-/*
- * Whether the thread of the one deed was joined before the other's was made, or one that made that in turn, by the thread
- * that joined; or by the other's thread itself, before it first did so.
- */
-bool single_is_before(const struct single *single, const struct single_deed *one, const struct single_deed *other);
-
-/*
- * Whether the thread of the one deed has made the other's, or one that made that in turn, and never did so again after that.
- * It isn't known of a thread that had made many by then, or where calls weren't recorded.
- */
-bool single_is_early(const struct single *single, const struct single_deed *one, const struct single_deed *other);
-
-/* Whether it was done before there was any other thread, and never after that. */
-bool single_is_first(const struct single *single, const struct single_deed *deed);
+/* Whether the kernel gave the number to a second thread, too. */
+bool single_is_reused(const struct single *single, long thread);
 
 #endif

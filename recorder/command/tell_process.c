@@ -10,6 +10,7 @@
 #include "files.h"
 #include "follow.h"
 #include "findings_run.h"
+#include "grades.h"
 #include "graph.h"
 #include "held.h"
 #include "judge.h"
@@ -65,13 +66,19 @@ static void keep_told(struct process *process, const struct report *report, char
     }
 }
 
+/* While the program runs, a deadlock may have to be seen meanwhile. */
+static void grade(struct process *process)
+{
+    grade_reports(&process->reports, process->run->settings.grader, process->is_followed);
+}
+
 /* The report, with what is to stand below it. */
 static void write_report(struct process *process, const struct report *report, FILE *to)
 {
     struct run *run = process->run;
     report_write(to, report, run->settings.frames > 1, run->settings.suppressions);
-    struct alarm alarm = alarm_of(report, &process->notes);
-    char *text = alarm_text(&alarm);
+    grade(process);
+    char *text = alarm_text(&report->alarm);
     if (run->settings.frames > 1 && *text)
         fprintf(to, "%s\n", text);
     if (process->is_followed)
@@ -84,8 +91,8 @@ static void write_report(struct process *process, const struct report *report, F
 static void tell_alarm(struct process *process, const struct report *report, const char *before)
 {
     struct run *run = process->run;
-    struct alarm alarm = alarm_of(report, &process->notes);
-    char *text = alarm_text(&alarm), *about = report_about(report);
+    grade(process);
+    char *text = alarm_text(&report->alarm), *about = report_about(report);
     if (*before && strcmp(before, text) != 0 && run->settings.frames > 1)
         say(&run->output, "by now, of %s: %s", about, text);
     free(about);
@@ -104,14 +111,14 @@ static bool was_told(struct process *process, const struct report *report)
 }
 
 /* How many of the reports count for the status. */
-static unsigned long alarms_counted(const struct process *process)
+static unsigned long alarms_counted(struct process *process)
 {
     unsigned long count = 0;
+    grade(process);
     for (size_t i = 0; i < process->reports.count; i++) {
         const struct report *report = &process->reports.report[i];
-        struct alarm alarm = alarm_of(report, &process->notes);
         count += (report->kind == REPORT_REVERSAL || report->kind == REPORT_DUPLICATE)
-            && alarm_counts(&process->run->alarms_wanted, report, &alarm);
+            && alarm_counts(&process->run->alarms_wanted, &report->alarm);
     }
     return count;
 }

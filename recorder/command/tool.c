@@ -42,7 +42,7 @@ bool tool_starts(struct tool *tool, char *const words[])
     int ends[2];
     posix_spawn_file_actions_t actions;
     char **around = environment();
-    *tool = (struct tool){0, -1, NULL};
+    *tool = (struct tool){0, -1, PATIENCE, NULL};
     if (socketpair(AF_UNIX, SOCK_STREAM | SOCK_CLOEXEC, 0, ends) == 0) {
         posix_spawn_file_actions_init(&actions);
         posix_spawn_file_actions_adddup2(&actions, ends[1], STDIN_FILENO);
@@ -130,7 +130,7 @@ bool tool_answers(struct tool *tool, const char *question, size_t length, struct
 {
     size_t left = length;
     bool goes_on = tool->process != 0;
-    long end = milliseconds() + PATIENCE;
+    long end = milliseconds() + tool->patience;
     while (goes_on && !is_whole(answer, wanted)) {
         struct pollfd look = {tool->socket, (short)(POLLIN | (left > 0 ? POLLOUT : 0)), 0};
         long time = end - milliseconds();
@@ -144,7 +144,7 @@ bool tool_answers(struct tool *tool, const char *question, size_t length, struct
         if (look.revents & ~POLLOUT)
             goes_on = reads(tool, answer) && answer->length <= most;
         if (answer->length + (length - left) > before)
-            end = milliseconds() + PATIENCE;
+            end = milliseconds() + tool->patience;
     }
     if (!goes_on)
         tool_ends(tool);

@@ -11,6 +11,7 @@
 struct tool {
     pid_t process; /* 0 where none runs */
     int socket;
+    long patience; /* how many milliseconds it may say nothing; the caller may change it */
     struct tool *next; /* among those that run */
 };
 

@@ -346,8 +346,10 @@ static void note_error(struct writing *writing, const struct line *line)
 
 static void note_single(struct writing *writing, const struct line *line)
 {
-    if (writing->notes)
-        single_read(&writing->notes->single, line->at, (size_t)(line->end - line->at));
+    struct notes *notes = writing->notes;
+    struct single_deed *deed = notes ? single_read(&notes->single, line->at, (size_t)(line->end - line->at)) : NULL;
+    if (deed)
+        deed->site = site_of(writing->making->sites, deed->place);
 }
 
 static void note_answer(struct writing *writing, const struct line *line)

@@ -8,14 +8,38 @@ alarm() {
     tell alarms "of $1" $?
 }
 
-# reused HOW WANTED: the same of a recording in which the kernel gave each number to a second thread, made later.
-reused() {
+# changed HOW WHAT SCRIPT WANTED: the same of a recording that the script of sed has changed.
+changed() {
     rm -rf records && mkdir records
     RECORDER_FRAMES=8 RECORDER_DIRECTORY=$work/records LD_PRELOAD=$recorder/out/recorder.so ./single "$1"
-    sed 's/^life \([0-9]*\) \([0-9]*\) [0-9]*$/&\nlife \1 \2 9/' records/*.0 >reused && mv reused records/9.0
-    RECORD_FRAMES=8 "$record" --show records/9.0 2>&1 | sed -n 's/threads [0-9]* and [0-9]*/threads N and M/; /^single locks: /p' >below
-    echo "single locks: $2" | diff - below
-    tell alarms "of $1, where numbers were given twice" $?
+    sed "$3" records/*.0 >changed && ! cmp -s changed records/*.0 && mv changed records/9.0 &&
+        RECORD_FRAMES=8 "$record" --show records/9.0 2>&1 | sed -n 's/threads [0-9]* and [0-9]*/threads N and M/; /^single locks: /p' >below
+    echo "single locks: $4" | diff - below
+    tell alarms "of $1, where $2" $?
+}
+
+# reused HOW WANTED: of one in which the kernel gave each number to a second thread, made later.
+reused() {
+    changed "$1" "numbers were given twice" 's/^life \([0-9]*\) \([0-9]*\) [0-9]*$/&\nlife \1 \2 9/' "$2"
+}
+
+# graded WHAT SCRIPT WANTED: what stands below the report of two threads where the shell does the script in place of
+# `witness grade`. It counts all the same.
+graded() {
+    printf '#!/bin/sh\n[ "$1" != grade ] || { %s; exit; }\nexec "%s" "$@"\n' "$2" "$WITNESS" >grader && chmod +x grader
+    RECORD_FRAMES=8 WITNESS=$work/grader "$record" --error-exitcode 9 --depth 1 -- ./single locks 2>recorded.err
+    status=$?
+    sed -n '/^single locks: /p' recorded.err >below
+    echo "single locks: not known, $3" | diff - below && [ $status -eq 9 ]
+    tell alarms "not known: $1" $?
+}
+
+# unbuilt WHAT WANTED: the same where the program would only be tried, in the folder `top`.
+unbuilt() {
+    PATH=$work/top/bin:$PATH RECORD_FRAMES=8 WITNESS=$work/top/witness "$record" --depth 1 -- ./single locks 2>recorded.err
+    sed -n 's/threads [0-9]* and [0-9]*/threads N and M/; /^single locks: /p' recorded.err >below
+    grep -q "isn't built: a trial of it answers" recorded.err && echo "single locks: $2" | diff - below
+    tell alarms "$1" $?
 }
 
 # counts STATUS HOW WORDS: the status of `single HOW` with --alarms WORDS.
@@ -37,27 +61,47 @@ if wanted alarms; then
     alarm readers 'both orders, the same locks, threads N and M; readers: one waits for readers as a reader'
     alarm writers 'both orders, the same locks, threads N and M'
     alarm read-gate 'both orders, the same locks, threads N and M'
-    alarm apart 'both orders, the same locks, threads N and M; apart: one thread was joined before the other did so'
-    alarm early 'both orders, the same locks, threads N and M; apart: one thread did so before it made the other'
+    alarm apart "both orders, the same locks, threads N and M; apart: one thread had ended, or wasn't made yet, when the other did so"
+    alarm early 'both orders, the same locks, threads N and M; apart: one was done before there was another thread'
     alarm later 'both orders, the same locks, threads N and M'
     alarm begun 'both orders, the same locks, threads N and M; apart: one was done before there was another thread'
     alarm by-two 'both orders, the same locks, threads N and M; apart: one was done before there was another thread'
     alarm many 'one order only for any two locks: types alone'
     alarm three 'all orders of the circle, the same locks, threads N and M'
     alarm through 'all orders of the circle, the same locks, threads N and M'
-    alarm inner 'all orders of the circle, the same locks, threads N and M; gate: each time "branch(mutex)/3" was held'
+    alarm inner 'all orders of the circle, the same locks, threads N and M; timed: one was asked for with a time limit'
     alarm twice 'all orders of the circle, the same locks, threads N and M, of which N took two orders'
     alarm waits 'both orders, the same locks, threads N and M; apart: each one had its lock when its wait for a condition began'
     alarm woken 'both orders, the same locks, threads N and M'
     alarm under 'both orders, the same locks, threads N and M; apart: one took its lock under the one that the other kept in its wait'
     alarm not-under 'both orders, the same locks, threads N and M'
-    alarm twins 'both orders, the same locks, threads N and M'
+    alarm twins 'both orders, the same locks, threads N and M; the other way @ single.c:56'
     alarm row 'one order: none of these locks was ever taken the other way round'
     reused apart 'both orders, the same locks, threads N and M'
     reused early 'both orders, the same locks, threads N and M; apart: one was done before there was another thread'
+    # Others may read, so who waits as a reader may have lost the lock to one that took it under what was kept.
+    changed under "the wait ends as a reader's" '/^pair /s/ xw/ sw/' 'both orders, the same locks, threads N and M'
+    unanswered="the verifier didn't answer; a smaller part of the work may show it"
+    graded "a program that doesn't know the word" 'exit 2' "$unanswered"
+    graded "a program that ends" 'head -n 1 >/dev/null' "$unanswered"
+    graded "a program that says what it reads" cat "$unanswered"
+    graded "a program that names facts that there aren't" 'sed -u "s/^grade$/same 0 77/;t;d"' "$unanswered"
+    graded "a program that hangs" 'exec sleep 300' "$unanswered"
+    compile deadlock
+    WITNESS=$work/grader "$record" --on-deadlock kill -- ./deadlock 2>recorded.err >/dev/null &
+    within grep -q ' is ended: its threads wait for one another$' recorded.err
+    tell alarms "a deadlock is seen while such a program has no answer" $?
+    wait $!
+    graded "facts are missing" 'sed -u "s/^grade$/unknown/;t;d"' 'there were more orders of such locks than are kept'
+    mkdir -p top/tools top/bin top/crates/witness/out && printf '#!/bin/sh\nexit 1\n' >top/tools/build && cp top/tools/build top/bin/rt &&
+        printf '#!/bin/sh\nexec "%s" "$@"\n' "$WITNESS" >top/witness && chmod +x top/tools/build top/bin/rt top/witness
+    unbuilt "not known: a program that isn't built" "not known, the verifier isn't built, and a trial of it isn't asked; make builds it"
+    ln -s "$WITNESS" top/crates/witness/out/witness
+    unbuilt "a program that was built of earlier sources is asked" 'both orders, the same locks, threads N and M'
     counts 9 locks ''
-    counts 9 types ''
+    counts 0 types ''
     counts 0 types locks
+    counts 9 types all
     counts 9 locks threads
     counts 9 one locks
     counts 0 one threads

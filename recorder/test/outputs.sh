@@ -9,8 +9,8 @@ build_driver() {
     folder=$2
     shift 2
     sources=
-    for module in alarms alarm_words describe escape findings hang html html_card html_parts json layout layout_rows map memory notes objects orders page \
-        picture place report sarif sarif_place sarif_result single single_graph texts thread_label; do
+    for module in alarms describe escape findings hang html html_card html_parts json layout layout_rows map memory notes objects orders page \
+        picture place report sarif sarif_place sarif_result single texts thread_label; do
         sources="$sources $recorder/command/$module.c"
     done
     mkdir -p "$folder" && (cd "$folder" && "$compiler" -std=c11 -D_GNU_SOURCE -g -Wall -Wextra -Werror \
@@ -97,6 +97,11 @@ test_runs() {
         grep -q "<p class='single bad'>single locks: both orders, the same locks, threads [0-9]* and [0-9]*; apart" run.html &&
         grep -q "<mark class='row' data-line='19'>    pthread_mutex_lock(&amp;pool);" run.html
     tell outputs "of a run with a reversal" $?
+    compile single && recorded_to run --depth 1 -- ./single twins && whole run &&
+        is run.json reports.0.kind '"duplicate"' reports.0.counts true reports.0.single.elsewhere.# 1 \
+            reports.0.single.elsewhere.0.file '"single.c"' reports.0.single.elsewhere.0.line 56 &&
+        grep -q "<p class='single bad'>single locks: both orders, the same locks, .*; the other way @ single.c:56</p>" run.html
+    tell outputs "of two locks of one type that were taken both ways" $?
     printf '%s\n' '"made()<main()"' '"kinds.c:8<kinds.c:25" "kinds.c:8<kinds.c:24"' >known
     recorded_to run --ignore known -- ./kinds && whole run && said 0 'known silences 2 reports' &&
         is run.json reports.# 2 reports.0.silenced true reports.0.kind '"duplicate"' reports.1.silenced true &&

@@ -13,9 +13,9 @@ file_of() {
 pairs_of() {
     file_of ./facts "$@"
     awk '$1 == "type" && $3 == "variable" { name[$2] = $6; within[$2] = $7 }
-        $1 == "pair" && name[$7] == "pool" && name[$11] == "journal" {
-            printf "%s", $12
-            for (i = 13; i < NF; i += 4) printf " %s+%s:%s", name[$(i + 2)], within[$(i + 2)], $(i + 3)
+        $1 == "pair" && name[$8] == "pool" && name[$12] == "journal" {
+            printf "%s", $13
+            for (i = 14; i < NF; i += 4) printf " %s+%s:%s", name[$(i + 2)], within[$(i + 2)], $(i + 3)
             print ""
         }' lines
 }
@@ -26,7 +26,7 @@ told_as() {
     shift 4
     RECORD_FRAMES=8 "$record" --quiet --error-exitcode 9 "$@" -- ./hand "$how" "$count" 2>recorded.err
     status=$?
-    sed -n 's/threads [0-9, ]* and [a-z0-9 ]*$/threads N and M/; /^single locks: /p' recorded.err >below
+    sed -n 's/threads [0-9, ]* and [a-z0-9 ]*;/threads N and M;/; /^single locks: /p' recorded.err >below
     echo "single locks: $words" | diff - below && [ $status -eq "$wanted_status" ]
     tell hand "$how, $count locks${*:+ ($*)}" $?
 }
@@ -38,12 +38,12 @@ if wanted hand; then
         told_as forward $count 0 'one order: none of these locks was ever taken the other way round'
     done
     for count in 10 100; do
-        told_as back $count 9 'both orders, the same locks, threads N and M'
+        told_as back $count 9 'both orders, the same locks, threads N and M; taken @ hand.c:37, hand.c:28'
     done
     for count in 5 40; do
-        told_as ring $count 9 'all orders of the circle, the same locks, threads N and M'
+        told_as ring $count 9 'all orders of the circle, the same locks, threads N and M; the others @ hand.c:28'
     done
-    told_as far 100 9 'all orders of the circle, the same locks, threads N and M'
+    told_as far 100 9 'all orders of the circle, the same locks, threads N and M; the others @ hand.c:37, hand.c:28'
 fi
 
 # fact WHAT WANTED WORDS..: the pairs of `facts WORDS` are those.
@@ -79,7 +79,7 @@ xr
 xr" anew 10
     # Half of the numbers of locks are for what the trace needs.
     pairs_of spent 17000 >pairs
-    [ "$(awk '$1 == "pair" { pairs++; numberless += $5 == 0 && $9 == 0; typed += $7 > 0 && $11 > 0 }
+    [ "$(awk '$1 == "pair" { pairs++; numberless += $6 == 0 && $10 == 0; typed += $8 > 0 && $12 > 0 }
         END { print pairs, (numberless > 500), (typed == pairs) }' lines)" = "17002 1 1" ]
     tell facts "the types of locks that have no numbers" $?
     RECORD_FRAMES=8 "$record" --quiet -- ./facts spent 17000 2>recorded.err

@@ -1,5 +1,5 @@
 -- Facts have a grade.
-use Rattle.std.proofs.Common.{◌≡◌, ℕ, ◌^◌, ◌<◌, ◌⊎◌, Bool, true, false, List, length, refl, inl, inr}
+use Rattle.std.proofs.Common.{ℕ, ◌^◌, ◌<◌, ◌⊎◌, Bool, true, false, List, length, refl, inl, inr}
 use Rattle.std.proofs.Common.{⊎_elim, arith}
 use Rattle.std.specs.Global.{Vec}
 use Rattle.wit_alarms.specs.declared.facts.Fact.{Fact}

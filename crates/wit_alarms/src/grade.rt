@@ -90,8 +90,8 @@ impl Reasons {
     }
 }
 
-// The one reason that keeps a circle from closing, if there is such a reason. This one closes where
-// no reason counts.
+// The one reason that keeps a circle from closing, if there is such a reason. One thread comes last:
+// a circle of several threads is more to be feared. This one closes where no reason counts.
 fn only_reason(
     alloc: Global,
     facts: &[Fact],
@@ -104,12 +104,12 @@ fn only_reason(
     ensures { IfOk result (IsCause lives.now facts.now) }
 {
     let reasons = [
-        Reason::OneThread,
         Reason::Limit,
         Reason::Gate,
         Reason::Readers,
         Reason::Waits,
         Reason::Apart,
+        Reason::OneThread,
     ];
     for reason in reasons {
         let search = Search {

@@ -14,7 +14,7 @@ pub loop-reason-preserved : goal.loop-reason-preserved
 loop-reason-preserved c =
     let lives = c.args.lives.now in
     let facts = c.args.facts.now in
-    let reasons = OneThread ∷ Limit ∷ Gate ∷ Readers ∷ Waits ∷ Apart ∷ [] in
+    let reasons = Limit ∷ Gate ∷ Readers ∷ Waits ∷ Apart ∷ OneThread ∷ [] in
     below_more (λ k. NoneCloses (all_but (slice_index_or reasons k OneThread)) lives facts)
     c.loop-reason.reason-index c.loop-reason.invariant
     (subst (λ why. NoneCloses why lives facts) c.all_but.ensures
@@ -27,11 +27,11 @@ returns c = (
   λ reason.
       let past = c.loop-reason-test.false in
       elim reason as (λ r. NoneCloses (all_but r) c.args.lives.now c.args.facts.now) [
-        | OneThread ↦ c.loop-reason.invariant 0 (omega (arith, past))
-        | Limit ↦ c.loop-reason.invariant 1 (omega (arith, past))
-        | Gate ↦ c.loop-reason.invariant 2 (omega (arith, past))
-        | Readers ↦ c.loop-reason.invariant 3 (omega (arith, past))
-        | Waits ↦ c.loop-reason.invariant 4 (omega (arith, past))
-        | Apart ↦ c.loop-reason.invariant 5 (omega (arith, past))
+        | Limit ↦ c.loop-reason.invariant 0 (omega (arith, past))
+        | Gate ↦ c.loop-reason.invariant 1 (omega (arith, past))
+        | Readers ↦ c.loop-reason.invariant 2 (omega (arith, past))
+        | Waits ↦ c.loop-reason.invariant 3 (omega (arith, past))
+        | Apart ↦ c.loop-reason.invariant 4 (omega (arith, past))
+        | OneThread ↦ c.loop-reason.invariant 5 (omega (arith, past))
       ],
 )
