@@ -89,7 +89,10 @@ static void write_alarm(FILE *to, const struct alarm *alarm)
         return;
     case GRADE_ONE_THREAD:
     case GRADE_THREADS:
-        fprintf(to, "single locks: %s, the same locks, ", alarm->steps > 2 ? "all orders of the circle" : "both orders");
+        fprintf(to, "single locks: %s, the same locks, ",
+            alarm->is_smaller       ? "all orders of a smaller circle of these types"
+                : alarm->steps > 2 ? "all orders of the circle"
+                                   : "both orders");
         write_threads(to, alarm);
         break;
     }

@@ -29,6 +29,7 @@ struct alarm {
     size_t threads;
     size_t others;    /* threads of it of which nothing is known, or that have no room there */
     size_t steps;     /* of the circle of types, or of the locks where that has more */
+    bool is_smaller;  /* it doesn't go over all types of the report */
     long twice;       /* a thread that took two of the orders; 0 for none */
     const char *gate; /* a lock that two of them held each time; NULL where there is none */
     bool readers;     /* one waits for readers alone, as a reader */

@@ -169,7 +169,8 @@ static void add_place(struct alarm *alarm, const struct fact *fact)
 static void add_circle(struct alarm *alarm, const struct notes *notes, const struct question *question)
 {
     alarm->grade = GRADE_THREADS;
-    alarm->steps = question->places > question->types ? question->places : question->types;
+    alarm->is_smaller = question->places < question->types;
+    alarm->steps = alarm->is_smaller ? question->types : question->places;
     for (size_t i = 0; i < question->places; i++) {
         const struct fact *fact = fact_at(question, i);
         long thread = fact_thread(&notes->single, fact);
