@@ -2,11 +2,11 @@
 #                            builds the recorder
 # make check                 the gate: every proof and every test, an hour on four processors
 # make install PREFIX=..     puts all under a folder, from where it works without this one
-# make dist VERSION=..       makes a tar of that, which needs neither Rattle nor a compiler
+# make dist                  makes a tar of that, which needs neither Rattle nor a compiler
 # The last two prove and build the program first, where that wasn't done, and take libwitness where it stands built; else a
 # line says how that is.
 PREFIX = /usr/local
-VERSION = 0
+VERSION := $(shell sed -n 1p VERSION)
 
 all:
 	@tools/build

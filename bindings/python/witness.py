@@ -19,6 +19,7 @@ import sys
 import threading
 import _thread
 
+__version__ = "0.5.0"
 __all__ = ["patch", "is_recorded", "Lock", "RLock", "Semaphore", "BoundedSemaphore", "Watched"]
 
 MUTEX, READ, WRITE = range(3)

@@ -4,6 +4,7 @@
 #include <stdlib.h>
 #include <string.h>
 
+#include "../witness.h"
 #include "confirm.h"
 #include "errors.h"
 #include "html.h"
@@ -37,6 +38,8 @@ void findings_begin(struct run *run)
 {
     if (!findings_are_wanted(&run->settings))
         return;
+    run->findings.version = WITNESS_VERSION;
+    run->findings.kit = WITNESS_KIT;
     run->findings.program = run->settings.program;
     run->findings.directory = is_asked(run->settings.directory) ? run->settings.directory : NULL;
     run->findings.ignore = run->settings.ignore;

@@ -319,6 +319,7 @@ void json_write(FILE *file, const struct findings *findings)
     object_text(&to, "format", "record-findings");
     object_number(&to, "version", VERSION);
     object_text(&to, "record", findings->version);
+    object_text(&to, "kit", findings->kit);
     object_text(&to, "program", findings->program);
     object_text(&to, "directory", findings->directory);
     object_text(&to, "summary", findings->summary);

@@ -257,6 +257,14 @@ static void take_help(struct options *options, const char *word)
     exit(0);
 }
 
+static void take_version(struct options *options, const char *word)
+{
+    (void)options;
+    (void)word;
+    usage_version("record");
+    exit(0);
+}
+
 static const struct option {
     const char *name;
     /* What stands after it; OUTPUT is a file that is written, and MAYBE a word that stands after `=` or not at all. */
@@ -299,6 +307,8 @@ static const struct option {
     {"--trace", WORD, take_trace},
     {"--clean", WORD, take_clean},
     {"--help", ALONE, take_help},
+    {"-h", ALONE, take_help},
+    {"--version", ALONE, take_version},
 };
 
 /* Options of earlier versions, and what stands in their place. */

@@ -4,6 +4,7 @@
 #include <stdio.h>
 #include <stdlib.h>
 
+#include "../witness.h"
 #include "memory.h"
 
 enum { REFUSED = 2, FAILED = 126 };
@@ -54,12 +55,18 @@ static const char text[] =
     "  --trace FILE   run nothing, and write the trace of a recorder's file to standard output\n"
     "  --clean FILE   run nothing, and write whether a trace is clean: which line stands against it, if any\n"
     "  --help         this text\n"
+    "  --version      the version, and the kit by which the verifier is proved\n"
     "Locks that aren't pthread's (futexes, atomics) are recorded where the program tells of them by the macros of\n";
 
 void usage(const char *here)
 {
     fputs(text, stdout);
     printf("%s/witness.h, a header for C and C++ with no library to link.\n", here);
+}
+
+void usage_version(const char *command)
+{
+    printf("%s " WITNESS_VERSION "\n" WITNESS_KIT "\n", command);
 }
 
 static _Noreturn void leave(int status, const char *format, va_list words, const char *after)

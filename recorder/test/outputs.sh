@@ -87,6 +87,9 @@ whole() {
 test_runs() {
     compile reversal && compile kinds && compile deadlock && compile forking && compile handover
     recorded_to run -- ./reversal && whole run && said 0 '1 report, 0 circles, 1 process' &&
+        is run.json record "\"$(sed -n 1p "$here/../../VERSION")\"" kit "\"$(sed -n 2p "$here/../../VERSION")\"" &&
+        is run.sarif runs.0.tool.driver.version "\"$(sed -n 1p "$here/../../VERSION")\"" \
+            runs.0.tool.driver.properties.kit "\"$(sed -n 2p "$here/../../VERSION")\"" &&
         is run.json summary '"1 report, 0 circles, 1 process"' program '"reversal"' reports.# 1 reports.0.kind '"reversal"' \
             reports.0.asked.site '"reversal.c:19"' reports.0.asked.callers.0.function '"checkpoint"' \
             reports.0.asked.thread.maker '"main"' reports.0.single.grade '"threads"' reports.0.single.apart true \
