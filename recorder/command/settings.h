@@ -38,6 +38,7 @@ struct settings {
     const char *before;    /* --before: a command before each steered run */
     int noise;             /* --noise: the longest pause before a second lock, in milliseconds; 0 for none */
     const struct again *again; /* how the program is begun again (steered.h) */
+    const char *colour;    /* --color; NULL is auto */
     bool suppressions, judge;
     bool no_errors;        /* errors in the use of locks aren't told */
     bool in_debugger;      /* the program's process is a debugger's child */

@@ -100,7 +100,7 @@ if wanted builds; then
         made_are "$work/small/out" ${line#* }
         tell builds "what a newer ${line%% *} is in" $?
     done
-    for word in --help -h --version --show --trace --clean; do
+    for word in --help -h --version --completion --show --trace --clean; do
         plant_small small
         built small/build $word
         made_are "$work/small/out" builder record
