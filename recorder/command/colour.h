@@ -10,7 +10,7 @@
 /* Whether it is a word of --color: auto, always or never. */
 bool colour_word(const char *word);
 
-/* Whether standard error gets colours by that word; NULL is auto: at a terminal, unless NO_COLOR or TERM speak against it. */
+/* Whether standard error gets colours by that word; NULL is auto: at a terminal, unless NO_COLOR or TERM forbids it. */
 bool colour_is_wanted(const char *word);
 
 /* These lines with their headings in colour, as a text of one's own; NULL where there is no room. */

@@ -40,6 +40,7 @@ void findings_begin(struct run *run)
         return;
     run->findings.version = WITNESS_VERSION;
     run->findings.kit = WITNESS_KIT;
+    run->findings.words = is_asked(run->settings.words) ? run->settings.words : NULL;
     run->findings.program = run->settings.program;
     run->findings.directory = is_asked(run->settings.directory) ? run->settings.directory : NULL;
     run->findings.ignore = run->settings.ignore;

@@ -389,6 +389,24 @@ static char **read_options(struct options *options, char **words)
     return words;
 }
 
+/*
+ * The words with blanks between them, in apostrophes where a shell wouldn't pass them on as they are; a text that lasts to
+ * the end.
+ */
+static const char *words_in_line(char **words)
+{
+    static const char plain[] = "ABCDEFGHIJKLMNOPQRSTUVWXYZabcdefghijklmnopqrstuvwxyz0123456789_-+=./,:@%";
+    static char *volatile line;
+    line = copy("");
+    for (; *words; words++) {
+        bool is_plain = **words && (*words)[strspn(*words, plain)] == '\0';
+        char *longer = say_text("%s%s%s%s%s", line, *line ? " " : "", is_plain ? "" : "'", *words, is_plain ? "" : "'");
+        free(line);
+        line = longer;
+    }
+    return line;
+}
+
 /* What is asked of steered runs has to go with the rest. */
 static void check_confirm(const struct options *options, const char *other)
 {
@@ -430,4 +448,5 @@ void options_read(struct options *options, const char *here, char **words)
     if (options->settings.confirm_from && options->settings.confirm == 0)
         options->settings.confirm = CONFIRM_RUNS;
     options->settings.program = other ? "" : file_base(*options->program);
+    options->settings.words = other ? "" : words_in_line(options->program);
 }

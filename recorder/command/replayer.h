@@ -8,8 +8,8 @@
 
 /*
  * Fails where it can't be run, or doesn't know what was asked for. `settings->witness` is as it was named; where that is the
- * script of a repository whose program stands built, it is that program after this. A trial takes minutes, so with it nothing
- * is told before the end.
+ * script of a repository whose program stands built, it is that program after this. A trial takes minutes, so with it
+ * nothing is told before the end.
  */
 void replayer_check(struct settings *settings);
 

@@ -22,6 +22,7 @@ struct settings {
     const char *witness;   /* the program that replays */
     const char *acyclic;   /* the program that checks that orders have no circle */
     const char *program;   /* the program's name, as it is told */
+    const char *words;     /* the program with its words, as it was named */
     const char *misfit;    /* why the program can't be recorded, where that is known */
     const char *little;    /* why there was little room */
     const char *skip;      /* --skip: patterns, by colons */
