@@ -638,9 +638,40 @@ class _Importer:
         return spec
 
 
-def _name_untold():
+_LIBRARY = os.path.dirname(os.__file__) + os.sep
+
+
+def _is_own(file):
+    """Whether a module of that file is the interpreter's own, whose locks count as its own."""
+    return file.startswith("<frozen ") or (file.startswith(_LIBRARY) and "-packages" not in file)
+
+
+def _allocate_noted():
+    """_thread.allocate_lock, which notes where the program makes such locks: they aren't told."""
+    if not _is_own(sys._getframe(1).f_code.co_filename):
+        _untold.add("_thread.lock")
+    return _allocate()
+
+
+def _note_kept(kept):
+    """Notes where a module of the program's has these already, from before: locks that are made by them aren't told."""
+    for name, module in list(sys.modules.items()):
+        file = getattr(module, "__file__", None) or ("" if name == "__main__" else "<frozen builtin>")
+        if _is_own(file) or file == __file__:
+            continue
+        if any(value is each for value in list(vars(module).values()) for each in kept):
+            _untold.add("locks of the module %s" % name)
+
+
+def _ends():
+    """At the end of the program: names what isn't told, or says to the recorder that all was."""
     if _untold:
         sys.stderr.write("witness: not seen: %s\n" % ", ".join(sorted(_untold)))
+    else:
+        try:
+            open(os.path.join(os.environ["RECORDER_DIRECTORY"], "python.%d" % os.getpid()), "xb").close()
+        except (KeyError, OSError):
+            pass
 
 
 def patch():
@@ -649,7 +680,9 @@ def patch():
         return False
     if _Importer not in sys.meta_path:
         sys.meta_path.insert(0, _Importer)
-        atexit.register(_name_untold)
+        atexit.register(_ends)
+        _note_kept([_allocate, threading.Lock, _thread.RLock, threading.RLock, threading.Semaphore, threading.BoundedSemaphore])
+        _thread.allocate_lock = _thread.allocate = _allocate_noted
         for name in _UNTOLD:
             if name in sys.modules:
                 _watch(sys.modules[name])
@@ -658,6 +691,9 @@ def patch():
     threading.Semaphore = Semaphore
     threading.BoundedSemaphore = BoundedSemaphore
     threading.Thread.start = _start_told
+    # It has taken its own of the module _thread.
+    if hasattr(sys.modules.get("functools"), "RLock"):
+        sys.modules["functools"].RLock = RLock
     if "logging" in sys.modules:
         _replace_logging(sys.modules["logging"])
     return True
