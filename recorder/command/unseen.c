@@ -48,6 +48,7 @@ static const struct kind {
         OF_ATOMICS},
     {"waits for atomics of C++20", NULL, TEXTS("__atomic_wait_address", "18__waiter_pool_base", "__libcpp_atomic_wait"),
         ATOMICS},
+    {"locks of tokio", NULL, TEXTS("4sync15batch_semaphore9Semaphore", "src/sync/batch_semaphore.rs"), ALWAYS},
     {"absl::Mutex", "^libabsl_synchronization\\.so", TEXTS("AbslInternalPerThreadSemWait"), ALWAYS},
     {"locks of folly", "^libfolly\\.so", TEXTS("5folly6detail13futexWaitImpl", "5folly15SharedMutexImpl"),
         ALWAYS},
