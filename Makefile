@@ -1,12 +1,12 @@
 # make                       proves and builds the program, 25 minutes on four processors, and libwitness, three more; and
 #                            builds the recorder
-# make check                 the gate: every proof and every test, an hour on four processors
+# make check                 the gate: every proof and every test, about 70 minutes on four processors
 # make install PREFIX=..     puts all under a folder, from where it works without this one
-# make dist VERSION=..       makes a tar of that, which needs neither Rattle nor a compiler
+# make dist                  makes a tar of that, which needs neither Rattle nor a compiler
 # The last two prove and build the program first, where that wasn't done, and take libwitness where it stands built; else a
 # line says how that is.
 PREFIX = /usr/local
-VERSION = 0
+VERSION := $(shell sed -n 1p VERSION)
 
 all:
 	@tools/build
@@ -14,7 +14,7 @@ all:
 	@[ ! -x recorder/build ] || recorder/build >/dev/null
 
 check:
-	@echo "the gate: every proof and every test, from nothing: an hour on four processors, 10 GB of disk"
+	@echo "the gate: every proof and every test, from nothing: about 70 minutes on four processors, 10 GB of disk"
 	@.ci/run
 
 install:

@@ -11,15 +11,18 @@ local one, and else `Lock (bank.py:12)`. Where no recorder is loaded, nothing is
 A lock of one's own is told by a Watched. For Python 3.8 and later, CPython, with nothing but its own library.
 """
 
+import atexit
 import ctypes
 import dis
+import importlib.machinery
 import itertools
 import os
 import sys
 import threading
 import _thread
 
-__all__ = ["patch", "is_recorded", "Lock", "RLock", "Semaphore", "BoundedSemaphore", "Watched"]
+__version__ = "0.5.0"
+__all__ = ["patch", "is_recorded", "nested", "Lock", "RLock", "Semaphore", "BoundedSemaphore", "Watched"]
 
 MUTEX, READ, WRITE = range(3)
 _LABEL_MOST = 63
@@ -107,13 +110,24 @@ def _place(frame):
 
 # How many locks each thread has, as far as it has released them itself.
 _held = {}
+# How often a thread asked for a lock while it held another one, or nearly: threads count at once.
+_nests = 0
+
+
+def nested():
+    """A number that grows whenever a thread asks for a lock while it holds another one."""
+    return _nests
 
 
 def _requested(frame):
     """The place of a request, whose callers are told where they are wanted."""
+    global _nests
     frame = _outside(frame)
     entry = _entry(frame)
-    if entry[2] > 0 or (_ABOVE > 0 and _held.get(_get_ident(), 0) > 0):
+    is_nested = _held.get(_get_ident(), 0) > 0
+    if is_nested:
+        _nests += 1
+    if entry[2] > 0 or (_ABOVE > 0 and is_nested):
         entry[2] -= 1
         numbers = []
         while len(numbers) < _ABOVE and frame.f_back is not None:
@@ -584,15 +598,102 @@ def _called(lock, name):
     return _tell_anew(lock, (name.encode(), 0))
 
 
+# Modules with locks that aren't told: their classes, whose names are said at the end where one was made.
+_UNTOLD = {"asyncio.locks": ("Lock", "Condition", "Semaphore"), "multiprocessing.synchronize": ("SemLock", "Condition")}
+_untold = set()
+
+
+def _watch(module):
+    """Notes which classes of the module's locks are used."""
+    package = module.__name__.split(".")[0]
+    for name in _UNTOLD[module.__name__]:
+        kind = getattr(module, name, None)
+        if kind is None:
+            continue
+
+        def noted(self, *words, _before=kind.__init__, **more):
+            _untold.add("%s.%s" % (package, type(self).__name__))
+            _before(self, *words, **more)
+
+        kind.__init__ = noted
+
+
+class _Importer:
+    """Watches these modules once the program imports them."""
+
+    @staticmethod
+    def find_spec(name, path=None, target=None):
+        if name not in _UNTOLD:
+            return None
+        spec = importlib.machinery.PathFinder.find_spec(name, path, target)
+        if spec is None:
+            return None
+        load = spec.loader.exec_module
+
+        def exec_module(module):
+            load(module)
+            _watch(module)
+
+        spec.loader.exec_module = exec_module
+        return spec
+
+
+_LIBRARY = os.path.dirname(os.__file__) + os.sep
+
+
+def _is_own(file):
+    """Whether a module of that file is the interpreter's own, whose locks count as its own."""
+    return file.startswith("<frozen ") or (file.startswith(_LIBRARY) and "-packages" not in file)
+
+
+def _allocate_noted():
+    """_thread.allocate_lock, which notes where the program makes such locks: they aren't told."""
+    if not _is_own(sys._getframe(1).f_code.co_filename):
+        _untold.add("_thread.lock")
+    return _allocate()
+
+
+def _note_kept(kept):
+    """Notes where a module of the program's has these already, from before: locks that are made by them aren't told."""
+    for name, module in list(sys.modules.items()):
+        file = getattr(module, "__file__", None) or ("" if name == "__main__" else "<frozen builtin>")
+        if _is_own(file) or file == __file__:
+            continue
+        if any(value is each for value in list(vars(module).values()) for each in kept):
+            _untold.add("locks of the module %s" % name)
+
+
+def _ends():
+    """At the end of the program: names what isn't told, or says to the recorder that all was."""
+    if _untold:
+        sys.stderr.write("witness: not seen: %s\n" % ", ".join(sorted(_untold)))
+    else:
+        try:
+            open(os.path.join(os.environ["RECORDER_DIRECTORY"], "python.%d" % os.getpid()), "xb").close()
+        except (KeyError, OSError):
+            pass
+
+
 def patch():
     """Has the program's locks be told, where there is a recorder: whether there is one."""
     if not _recorder:
         return False
+    if _Importer not in sys.meta_path:
+        sys.meta_path.insert(0, _Importer)
+        atexit.register(_ends)
+        _note_kept([_allocate, threading.Lock, _thread.RLock, threading.RLock, threading.Semaphore, threading.BoundedSemaphore])
+        _thread.allocate_lock = _thread.allocate = _allocate_noted
+        for name in _UNTOLD:
+            if name in sys.modules:
+                _watch(sys.modules[name])
     threading.Lock = Lock
     threading.RLock = RLock
     threading.Semaphore = Semaphore
     threading.BoundedSemaphore = BoundedSemaphore
     threading.Thread.start = _start_told
+    # It has taken its own of the module _thread.
+    if hasattr(sys.modules.get("functools"), "RLock"):
+        sys.modules["functools"].RLock = RLock
     if "logging" in sys.modules:
         _replace_logging(sys.modules["logging"])
     return True

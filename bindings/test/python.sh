@@ -21,6 +21,9 @@ python_tests() {
     fi
     "$python" same.py >same.plain && RECORD_FRAMES=1 "$record" --log-file log -- "$python" same.py | diff same.plain -
     tell python "what locks answer, $version" $?
+    "$record" --log-file log -- "$python" untold.py >out 2>err && echo done | diff - out &&
+        echo 'witness: not seen: asyncio.Lock, asyncio.Semaphore, multiprocessing.Lock' | diff - err
+    tell python "locks that aren't told are named, $version" $?
     options="--judge" told crowd "$python" crowd.py
     tell python "a hundred threads, recorded in full and judged, $version" $?
 }

@@ -81,6 +81,21 @@ if wanted debugger; then
     else
         echo "left out  debugger: there is no gdb"
     fi
+    # Debian's lldb doesn't find its own module for Python without help.
+    for folder in "${PYTHONPATH-}" /usr/lib/llvm-*/lib/python3*/dist-packages; do
+        lldb_finds=$folder
+        PYTHONPATH=$folder lldb -b -o 'script print(40 + 2)' 2>/dev/null </dev/null | grep -qx 42 && break
+        lldb_finds=none
+    done
+    if [ "$lldb_finds" != none ]; then
+        cp "$here/bank.cc" . && "${CXX:-c++}" -g -Wall -Wextra -pthread -o bank bank.cc $linked
+        WITNESS=1 PYTHONPATH=$lldb_finds timeout 300 lldb -b -o "command script import $top/libwitness/stand_lldb.py" -o run -o 'print money' \
+            -- ./bank >out 2>err </dev/null
+        grep -q '= 20$' out && grep -q '^frame #.* at bank.cc:15' out
+        tell debugger "lldb stands in the function that asks" $?
+    else
+        echo "left out  debugger: there is no lldb with Python"
+    fi
 fi
 
 # A thread's name is text, whatever its bytes are.

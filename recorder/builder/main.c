@@ -1,9 +1,10 @@
 /*
  * builder ONCE FOLDER [WORD]: builds the command `record`, the recorder that programs load, and what they load before it for
- * --blocks, from the sources in FOLDER, where they don't stand built or a source is newer. It prints the folder in which they stand: beside their sources, else in
- * the user's cache, else in a folder for this run, which has a file `once`.
+ * --blocks, from the sources in FOLDER, where they don't stand built or a source is newer. It prints the folder in which they
+ * stand: beside their sources, else in the user's cache, else in a folder for this run, which has a file `once`.
  *
- * Where the word is --help, --show, --trace or --clean, no program will load the recorder, and the command alone is looked at.
+ * Where the word is --help, -h, --version, --completion, --show, --trace or --clean, no program will load the recorder, and
+ * the command alone is looked at.
  * CC names the compiler. With RECORD_SANITIZE the command is record.sanitized, which is built with AddressSanitizer and UBSan.
  * Where there is none in the end a line says why, and the status is 126.
  *
@@ -28,7 +29,7 @@
 /* Whether no program is run after such a word. */
 static bool looks_only(const char *word)
 {
-    static const char *const words[] = {"--help", "--show", "--trace", "--clean"};
+    static const char *const words[] = {"--help", "-h", "--version", "--completion", "--show", "--trace", "--clean"};
     for (size_t i = 0; i < sizeof words / sizeof *words; i++)
         if (strcmp(word, words[i]) == 0)
             return true;

@@ -95,7 +95,8 @@ bool is_current(const struct sources *sources, const char *file)
     bool is = !has_later(builder, true, &found) && !has_later(own, !is_library(file), &found);
     if (!is_library(file))
         is = is && !is_later_in(sources->folder, "format.h", true, &found) &&
-            !is_later_in(sources->folder, "label.h", true, &found);
+            !is_later_in(sources->folder, "label.h", true, &found) &&
+            !is_later_in(sources->folder, "witness.h", true, &found);
     if (is && is_library(file) && !*sources_of(file))
         is = !has_later_library(sources, &found);
     free(builder);

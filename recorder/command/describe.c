@@ -92,11 +92,39 @@ char *describe(const struct report *report)
     }
 }
 
+/* What the single locks say: what to ask first. Without words that keep the orders apart. */
+static const char *question(enum grade grade, bool is_reversal)
+{
+    if (grade == GRADE_THREADS)
+        return "Threads took these very locks in both orders: they deadlock if they do so at once.";
+    if (grade == GRADE_ONE_THREAD)
+        return "No two threads took these very locks in both orders yet: ask whether a second one can come there, for then "
+               "they deadlock.";
+    if (grade == GRADE_TYPES)
+        return "No single locks were taken both ways: ask whether another run can take them the other way round.";
+    return is_reversal ? "Ask first whether these places can run in two threads at once: if they can, each thread may come "
+                         "to wait for the other for good."
+                       : NULL;
+}
+
+/* As question; what kept the orders of the same locks apart in this run comes before all else. */
+static char *first_advice(const struct alarm *alarm, bool is_reversal)
+{
+    bool is_same = alarm->grade == GRADE_THREADS || alarm->grade == GRADE_ONE_THREAD;
+    const char *asked = question(alarm->grade, is_reversal);
+    if (is_same && alarm->gate)
+        return say_text("In this run \"%s\" kept the two orders apart: ask whether all ways to them hold it.", alarm->gate);
+    if (is_same && alarm->apart != NOT_APART)
+        return copy("In this run the two orders couldn't meet: ask whether the program keeps to that.");
+    if (is_same && alarm->readers)
+        return copy("One waits for readers as a reader: ask whether a writer can come between.");
+    if (is_same && alarm->timed)
+        return copy("One request ends by itself: look at what the program does when its time is over.");
+    return asked ? copy(asked) : NULL;
+}
+
 static char *advice_on_reversal(const char *first, const char *last, size_t number)
 {
-    if (number == 0)
-        return copy("Ask first whether these places can run in two threads at once: if they can, each thread may come "
-                    "to wait for the other for good.");
     if (number == 1)
         return say_text("Then change one of them: take \"%s\" before \"%s\" here too, or release \"%s\" before \"%s\" "
                         "is asked for.",
@@ -151,8 +179,12 @@ static char *advice_on_error(const char *lock, size_t number)
     return copy("If it is meant, --errors no tells nothing of such.");
 }
 
-char *advice(const struct report *report, size_t number)
+char *advice(const struct report *report, const struct alarm *alarm, size_t number)
 {
+    bool is_reversal = report->kind == REPORT_REVERSAL;
+    char *first = number == 0 && (is_reversal || report->kind == REPORT_DUPLICATE) ? first_advice(alarm, is_reversal) : NULL;
+    if (first)
+        return first;
     switch (report->kind) {
     case REPORT_REVERSAL:
         return advice_on_reversal(type_at(report, report->first), type_at(report, report->last), number);

@@ -6,6 +6,7 @@
 
 #include <stddef.h>
 
+#include "alarms.h"
 #include "report.h"
 
 /* Of each kind of report, by its number. */
@@ -24,8 +25,11 @@ extern const struct kind kinds[KINDS];
 /* In one line, as a text of one's own: `"journal" is held, "pool" is asked for`. */
 char *describe(const struct report *report);
 
-/* What to do about it: ADVICES sentences, texts of one's own; NULL of what is no matter of the program's. */
-char *advice(const struct report *report, size_t number);
+/*
+ * What to do about it, by how much it is to be feared: ADVICES sentences, texts of one's own; NULL of what is no matter of
+ * the program's.
+ */
+char *advice(const struct report *report, const struct alarm *alarm, size_t number);
 
 /* The types that the report is of, each once, in their order. The answer is how many there are, at most `room`. */
 size_t report_types(const struct report *report, const char **type, size_t room);

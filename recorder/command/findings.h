@@ -42,6 +42,8 @@ struct finding {
 struct findings {
     const char *command;   /* that writes the page; NULL is `record` */
     const char *version;   /* of `record`; NULL where that isn't known */
+    const char *kit;       /* by which the verifier is proved; NULL where that isn't known */
+    const char *words;     /* the program with its words, as it was run; NULL where that isn't known */
     const char *program;   /* its name */
     const char *directory; /* where names of source files begin that aren't absolute */
     const char *ignore;    /* the user's ignore file; NULL where there is none */

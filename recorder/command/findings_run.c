@@ -4,6 +4,7 @@
 #include <stdlib.h>
 #include <string.h>
 
+#include "../witness.h"
 #include "confirm.h"
 #include "errors.h"
 #include "grades.h"
@@ -38,6 +39,9 @@ void findings_begin(struct run *run)
 {
     if (!findings_are_wanted(&run->settings))
         return;
+    run->findings.version = WITNESS_VERSION;
+    run->findings.kit = WITNESS_KIT;
+    run->findings.words = is_asked(run->settings.words) ? run->settings.words : NULL;
     run->findings.program = run->settings.program;
     run->findings.directory = is_asked(run->settings.directory) ? run->settings.directory : NULL;
     run->findings.ignore = run->settings.ignore;

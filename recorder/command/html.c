@@ -9,7 +9,6 @@
 #include "html_parts.h"
 #include "memory.h"
 #include "page.h"
-#include "picture.h"
 
 /* So many pictures, rows of orders and threads are in a page; beyond it is said that there are more. */
 enum { PICTURES_MOST = 8, ROWS_MOST = 2000, THREADS_MOST = 500, TYPES_SHOWN = 64, NONCE = 16 };
@@ -67,11 +66,28 @@ static void put_entry(const struct html *html, const char *section, const char *
         put(html, "<li><a href='#%s'>%s</a> (%z)</li>\n", section, name, count);
 }
 
+/* Which command wrote the page, of which version, when, and what it ran. */
+static void put_origin(const struct html *html)
+{
+    const struct findings *findings = html->findings;
+    char time[40] = "";
+    struct tm parts;
+    if (findings->ended && localtime_r(&findings->ended, &parts))
+        strftime(time, sizeof time, ", %Y-%m-%d %H:%M:%S %Z", &parts);
+    put(html, "<p class='origin'>%s%s%s%s", findings->command ? findings->command : "record", findings->version ? " " : "",
+        findings->version, time);
+    if (findings->words)
+        put(html, ": <code>%s</code>", findings->words);
+    put(html, "</p>\n");
+}
+
 static void put_header(const struct html *html)
 {
     const struct findings *findings = html->findings;
     put(html, "<header>\n<h1>Lock orders of <code>%s</code></h1>\n", findings->program);
+    put_origin(html);
     put(html, "<p class='summary'>%s</p>\n<nav aria-label='Contents'><ul class='contents'>\n", findings->summary);
+    put_entry(html, "all", "All reports", findings->findings);
     put_entry(html, "circles", "Circles", count_findings(findings, SECTION_CIRCLES));
     put_entry(html, "reports", "Reports", count_findings(findings, SECTION_REPORTS));
     put_entry(html, "errors", "Errors", count_findings(findings, SECTION_ERRORS));
@@ -188,21 +204,21 @@ static void put_table(const struct html *html, const struct order_list *orders)
     put(html, "</details>\n");
 }
 
-static void put_picture(const struct html *html, size_t number)
+static void put_picture(struct html *html, size_t number)
 {
     const struct found *found = &html->findings->found[number];
     size_t orders = found->orders.count;
     put(html, "<h3><code>%s</code>", found->program);
     put(html, found->process ? ", process %l</h3>\n" : "</h3>\n", found->process);
     put(html, "<div class='picture' tabindex='0' role='region' aria-label='Picture'>\n");
-    size_t drawn = picture_write(html->to, &found->orders, found->program, number + 1);
+    size_t drawn = put_pictures(html, &found->orders, found->program);
     put(html, "</div>\n");
     if (drawn < orders)
         put(html, "<p class='legend'>%z of %z orders are drawn; the table has the others.</p>\n", drawn, orders);
     put_table(html, &found->orders);
 }
 
-static void put_orders(const struct html *html)
+static void put_orders(struct html *html)
 {
     size_t drawn = 0, left = 0;
     put(html,
@@ -263,18 +279,12 @@ static void put_threads(const struct html *html)
 static void put_end(const struct html *html, const char *nonce)
 {
     const struct findings *findings = html->findings;
-    char time[40] = "";
-    struct tm parts;
-    if (findings->ended && localtime_r(&findings->ended, &parts))
-        strftime(time, sizeof time, ", %Y-%m-%d %H:%M:%S %Z", &parts);
     put(html, "<section id='told'><h2>What was told</h2>\n<ul class='told'>\n");
     for (size_t i = 0; i < findings->tolds; i++)
         put(html, "<li>%s</li>\n", findings->told[i]);
     const char *command = findings->command ? findings->command : "record";
     put(html,
-        "</ul></section>\n</main>\n<footer><p>Written by %s%s%s%s. The page %s(1) says what the last line "
-        "means.</p></footer>\n",
-        command, findings->version ? " " : "", findings->version, time, command);
+        "</ul></section>\n</main>\n<footer><p>The page %s(1) says what the last line means.</p></footer>\n", command);
     put(html, "<script nonce='%s'>\n", nonce);
     fputs(page_js, html->to);
     put(html, "</script>\n</body>\n</html>\n");
@@ -288,6 +298,7 @@ void html_write(FILE *to, const struct findings *findings)
     gather_types(&html);
     put_beginning(&html, nonce);
     put_header(&html);
+    put_list(&html);
     put_finder(&html);
     put_reports(&html);
     put_orders(&html);

@@ -5,9 +5,14 @@
 
 #include "describe.h"
 #include "memory.h"
+#include "order_parts.h"
+#include "picture.h"
+#include "report_orders.h"
 
 /* Of more processes the first are named, and of more types the first can be found. */
 enum { PROCESSES_SHOWN = 12, TYPES_SHOWN = 64 };
+/* So many reports all stand open, and so many parts of the orders have a picture. */
+enum { OPEN_MOST = 8, PARTS_MOST = 100 };
 
 enum section section_of(const struct finding *finding)
 {
@@ -60,8 +65,10 @@ static void put_head(const struct html *html, const struct finding *finding, siz
     put(html, "<article class='card%s' id='report-%z' data-kind='%s' data-types='",
         finding->is_silenced ? " silenced" : "", number + 1, kind->word);
     put_types(html, finding->report);
-    put(html, "' aria-labelledby='title-%z'>\n<header><p class='kind'>%s%s</p>\n<h3 id='title-%z'>%s</h3>\n",
-        number + 1, kind->name, finding->is_silenced ? ", silenced" : "", number + 1, what);
+    put(html, "' aria-labelledby='title-%z'>\n<header><p class='kind'>%s%s</p>\n", number + 1, kind->name,
+        finding->is_silenced ? ", silenced" : finding->counts ? "" : ", which doesn't count for the status");
+    put(html, "<h3 id='title-%z'>%s <a class='link' href='#report-%z'>report %z</a></h3>\n", number + 1, what, number + 1,
+        number + 1);
     put_facts(html, finding);
     if (*finding->single)
         put(html, "<p class='single%s'>%s</p>\n", finding->alarm.grade == GRADE_THREADS ? " bad" : "", finding->single);
@@ -201,10 +208,10 @@ static void put_plain(const struct html *html, const struct report *report)
     put(html, "</ul>\n");
 }
 
-static void put_advice(const struct html *html, const struct report *report)
+static void put_advice(const struct html *html, const struct finding *finding)
 {
     for (size_t i = 0; i < ADVICES; i++) {
-        char *sentence = advice(report, i);
+        char *sentence = advice(finding->report, &finding->alarm, i);
         if (sentence && i == 0)
             put(html, "<h4 class='part'>What to do</h4>\n<ol class='advice'>\n");
         if (sentence)
@@ -223,6 +230,33 @@ static void put_silence(const struct html *html, const struct finding *finding)
             finding->is_silenced ? "A line that allows it:" : "The line for --ignore:", silence);
 }
 
+size_t put_pictures(struct html *html, const struct order_list *orders, const char *program)
+{
+    size_t *part, parts = order_parts(orders, &part), drawn = 0;
+    for (size_t number = 0; number < parts && number < PARTS_MOST; number++) {
+        struct order_list some = {0};
+        for (size_t i = 0; i < orders->count; i++)
+            if (part[i] == number)
+                ADD(some.order, some.count, some.room) = orders->order[i];
+        drawn += picture_write(html->to, &some, program, ++html->pictures);
+        free(some.order);
+    }
+    free(part);
+    return drawn;
+}
+
+static void put_report_picture(struct html *html, const struct finding *finding)
+{
+    struct order_list orders = {0};
+    report_orders(finding->report, &orders);
+    if (orders.count > 0) {
+        put(html, "<div class='picture' tabindex='0' role='region' aria-label='Picture of the report'>\n");
+        put_pictures(html, &orders, finding->found->program);
+        put(html, "</div>\n");
+    }
+    orders_end(&orders);
+}
+
 void put_card(struct html *html, size_t number)
 {
     const struct findings *findings = html->findings;
@@ -230,13 +264,18 @@ void put_card(struct html *html, size_t number)
     bool is_program = findings->program && strcmp(finding->found->program, findings->program) == 0;
     html->built = is_program ? findings->built : 0;
     put_head(html, finding, number);
+    /* Of many reports those stand open that count. */
+    bool is_open = !finding->is_silenced && (finding->counts || findings->findings <= OPEN_MOST);
+    put(html, is_open ? "<details class='body' open>" : "<details class='body'>");
+    put(html, "<summary>Places, picture and advice</summary>\n");
     put_locks(html, finding->report);
     put_steps(html, finding->report);
     put_waits(html, finding->report);
     put_error(html, finding->report);
     put_plain(html, finding->report);
+    put_report_picture(html, finding);
     if (!finding->is_silenced)
-        put_advice(html, finding->report);
+        put_advice(html, finding);
     put_silence(html, finding);
-    put(html, "</article>\n");
+    put(html, "</details>\n</article>\n");
 }

@@ -179,8 +179,9 @@ static void write_waits(struct objects *to, const struct report *report)
     object_close(to, '[');
 }
 
-static void write_words(struct objects *to, const struct report *report)
+static void write_words(struct objects *to, const struct finding *finding)
 {
+    const struct report *report = finding->report;
     char *words = describe(report);
     object_text(to, "description", words);
     free(words);
@@ -190,7 +191,7 @@ static void write_words(struct objects *to, const struct report *report)
     object_close(to, '[');
     object_open(to, "advice", '[');
     for (size_t i = 0; i < ADVICES; i++) {
-        char *sentence = advice(report, i);
+        char *sentence = advice(report, &finding->alarm, i);
         if (sentence)
             object_text(to, NULL, sentence);
         free(sentence);
@@ -283,7 +284,7 @@ static void write_report(struct objects *to, const struct finding *finding)
     write_steps(to, finding->report, notes);
     write_waits(to, finding->report);
     write_error(to, finding->report);
-    write_words(to, finding->report);
+    write_words(to, finding);
     object_close(to, '{');
 }
 
@@ -326,6 +327,7 @@ void json_write(FILE *file, const struct findings *findings)
     object_text(&to, "format", "record-findings");
     object_number(&to, "version", VERSION);
     object_text(&to, "record", findings->version);
+    object_text(&to, "kit", findings->kit);
     object_text(&to, "program", findings->program);
     object_text(&to, "directory", findings->directory);
     object_text(&to, "summary", findings->summary);

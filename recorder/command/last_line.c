@@ -1,6 +1,7 @@
 #include <stdio.h>
 #include <stdlib.h>
 #include <string.h>
+#include <unistd.h>
 
 #include "confirm.h"
 #include "going.h"
@@ -57,12 +58,27 @@ static char *and_past(char *text, const char *library)
     return longer;
 }
 
+/*
+ * Whether each process that has told of requests has left a file that says that it is a Python whose program's locks were
+ * all told (bindings/python/witness.py). Python itself makes some requests, so no other Python is passed over.
+ */
+static bool python_tells(const struct run *run)
+{
+    bool tells = run->recordings > 0;
+    for (size_t i = 0; i < run->recordings && tells; i++) {
+        char *path = say_text("%s/python.%ld", run->records, run->recording[i].process);
+        tells = access(path, F_OK) == 0;
+        free(path);
+    }
+    return tells;
+}
+
 /* Where locks weren't seen, the end of the last line; else an empty text. */
 static char *not_seen(const struct run *run)
 {
     size_t count = 0;
     char **objects = objects_of_run(run, &count);
-    char *locks = unseen_locks((const char *const *)objects, count, run->status.has_semaphores);
+    char *locks = unseen_locks((const char *const *)objects, count, run->status.has_semaphores, python_tells(run));
     for (size_t i = 0; i < run->status.pasts; i++)
         locks = and_past(locks, run->status.past[i]);
     char *text = *locks ? say_text("; not seen: %s (see record(1))", locks) : copy("");

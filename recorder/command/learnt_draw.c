@@ -4,6 +4,7 @@
 #include <stdlib.h>
 #include <string.h>
 
+#include "../witness.h"
 #include "findings.h"
 #include "graph.h"
 #include "html.h"
@@ -61,7 +62,8 @@ static void add_orders(struct order_list *orders, const struct learnt *learnt, c
 
 static bool write_page(const char *path, const struct learnt *learnt, struct judgement *judgement, const char *summary)
 {
-    struct findings findings = {.command = "orders", .program = "all files together", .ended = time(NULL)};
+    struct findings findings = {
+        .command = "orders", .version = WITNESS_VERSION, .program = "all files together", .ended = time(NULL)};
     struct found *found = findings_add(&findings, findings.program, 0);
     add_orders(&found->orders, learnt, &judgement->reports);
     found->notes = judgement->notes;

@@ -6,6 +6,8 @@
 #include <unistd.h>
 
 #include "alarms.h"
+#include "colour.h"
+#include "completion.h"
 #include "confirm.h"
 #include "deadlock.h"
 #include "files.h"
@@ -229,6 +231,13 @@ static void take_errors(struct options *options, const char *word)
     options->settings.no_errors = strcmp(word, "no") == 0;
 }
 
+static void take_colour(struct options *options, const char *word)
+{
+    options->settings.colour = word ? word : "always";
+    if (!colour_word(options->settings.colour))
+        refuse("--color is auto, always or never, not %s", word);
+}
+
 static void take_quiet(struct options *options, const char *word)
 {
     (void)word;
@@ -257,10 +266,23 @@ static void take_help(struct options *options, const char *word)
     exit(0);
 }
 
+static void take_version(struct options *options, const char *word)
+{
+    (void)options;
+    (void)word;
+    usage_version("record");
+    exit(0);
+}
+
+static void take_completion(struct options *options, const char *word);
+
 static const struct option {
     const char *name;
-    /* What stands after it; OUTPUT is a file that is written, and MAYBE a word that stands after `=` or not at all. */
-    enum { ALONE, WORD, OUTPUT, MAYBE } after;
+    /*
+     * What stands after it; OUTPUT is a file that is written, INPUT one that is read, and MAYBE a word that stands after `=`
+     * or not at all.
+     */
+    enum { ALONE, WORD, OUTPUT, INPUT, MAYBE } after;
     void (*take)(struct options *options, const char *word);
 } known[] = {
     {"-o", OUTPUT, take_keep},
@@ -270,10 +292,10 @@ static const struct option {
     {"--blocks", ALONE, take_blocks},
     {"--held-callers", ALONE, take_held},
     {"--skip", WORD, take_skip},
-    {"--ignore", WORD, take_ignore},
+    {"--ignore", INPUT, take_ignore},
     {"--error-exitcode", WORD, take_error},
     {"--learn", OUTPUT, take_learn},
-    {"--known", WORD, take_known},
+    {"--known", INPUT, take_known},
     {"--new-exitcode", WORD, take_new},
     {"--run-name", WORD, take_run_name},
     {"--program-name", WORD, take_program_name},
@@ -287,19 +309,38 @@ static const struct option {
     {"--alarms", WORD, take_alarms},
     {"--confirm", MAYBE, take_confirm},
     {"--confirm-time", WORD, take_confirm_time},
-    {"--confirm-from", WORD, take_confirm_from},
+    {"--confirm-from", INPUT, take_confirm_from},
     {"--before", WORD, take_before},
     {"--noise", MAYBE, take_noise},
     {"--errors", WORD, take_errors},
     {"--on-deadlock", WORD, take_deadlock},
     {"--on-report", WORD, take_on_report},
     {"--gdb", ALONE, take_gdb},
+    {"--color", MAYBE, take_colour},
     {"--quiet", ALONE, take_quiet},
-    {"--show", WORD, take_target},
-    {"--trace", WORD, take_trace},
-    {"--clean", WORD, take_clean},
+    {"--show", INPUT, take_target},
+    {"--trace", INPUT, take_trace},
+    {"--clean", INPUT, take_clean},
     {"--help", ALONE, take_help},
+    {"-h", ALONE, take_help},
+    {"--version", ALONE, take_version},
+    {"--completion", WORD, take_completion},
 };
+
+static void take_completion(struct options *options, const char *word)
+{
+    (void)options;
+    if (!completion_shell(word))
+        refuse("--completion is bash, zsh or fish, not %s", word);
+    completion_begin(word);
+    for (size_t i = 0; i < sizeof known / sizeof *known; i++) {
+        const struct option *option = &known[i];
+        bool is_file = option->after == INPUT || option->after == OUTPUT;
+        completion_option(word, option->name, option->after != ALONE && option->after != MAYBE, is_file);
+    }
+    completion_end(word);
+    exit(0);
+}
 
 /* Options of earlier versions, and what stands in their place. */
 static const struct {
@@ -348,6 +389,24 @@ static char **read_options(struct options *options, char **words)
     return words;
 }
 
+/*
+ * The words with blanks between them, in apostrophes where a shell wouldn't pass them on as they are; a text that lasts to
+ * the end.
+ */
+static const char *words_in_line(char **words)
+{
+    static const char plain[] = "ABCDEFGHIJKLMNOPQRSTUVWXYZabcdefghijklmnopqrstuvwxyz0123456789_-+=./,:@%";
+    static char *volatile line;
+    line = copy("");
+    for (; *words; words++) {
+        bool is_plain = **words && (*words)[strspn(*words, plain)] == '\0';
+        char *longer = say_text("%s%s%s%s%s", line, *line ? " " : "", is_plain ? "" : "'", *words, is_plain ? "" : "'");
+        free(line);
+        line = longer;
+    }
+    return line;
+}
+
 /* What is asked of steered runs has to go with the rest. */
 static void check_confirm(const struct options *options, const char *other)
 {
@@ -389,4 +448,5 @@ void options_read(struct options *options, const char *here, char **words)
     if (options->settings.confirm_from && options->settings.confirm == 0)
         options->settings.confirm = CONFIRM_RUNS;
     options->settings.program = other ? "" : file_base(*options->program);
+    options->settings.words = other ? "" : words_in_line(options->program);
 }

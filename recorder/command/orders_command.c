@@ -273,8 +273,12 @@ int orders_command(const char *here, char **words)
     signal(SIGPIPE, SIG_IGN);
     signal(SIGXFSZ, SIG_IGN);
     const char *word = *words ? *words : "";
-    if (strcmp(word, "--help") == 0) {
+    if (strcmp(word, "--help") == 0 || strcmp(word, "-h") == 0) {
         fputs(text, stdout);
+        return status_of_output(0);
+    }
+    if (strcmp(word, "--version") == 0) {
+        usage_version("orders");
         return status_of_output(0);
     }
     if (strcmp(word, "judge") == 0)

@@ -6,6 +6,7 @@
 #include <string.h>
 #include <unistd.h>
 
+#include "colour.h"
 #include "memory.h"
 #include "write_all.h"
 #include "written.h"
@@ -81,11 +82,16 @@ static char *with_numbers(long speaker, const char *text, size_t length, size_t 
 
 void tell_report(const struct output *output, const char *text, size_t length)
 {
-    size_t made = 0;
+    size_t made = 0, numbered_made = 0;
+    char *in_colour = output->is_coloured ? coloured(text, length, &made) : NULL;
+    const char *lines = in_colour ? in_colour : text;
+    if (!in_colour)
+        made = length;
     bool is_numbered = output->speaker && output->several;
-    char *lines = is_numbered ? with_numbers(output->speaker, text, length, &made) : NULL;
-    write_all(STDERR_FILENO, lines ? lines : text, lines ? made : length);
-    free(lines);
+    char *numbered = is_numbered ? with_numbers(output->speaker, lines, made, &numbered_made) : NULL;
+    write_all(STDERR_FILENO, numbered ? numbered : lines, numbered ? numbered_made : made);
+    free(numbered);
+    free(in_colour);
 }
 
 void tell(const struct output *output, const char *text, size_t length)

@@ -62,6 +62,14 @@
     addEventListener('hashchange', recall);
     recall();
   }
+  // A card that a link leads to stands open.
+  function unfold() {
+    const card = /^#report-[0-9]+$/.test(location.hash) && document.querySelector(location.hash + ' > details');
+    if (card)
+      card.open = true;
+  }
+  addEventListener('hashchange', unfold);
+  unfold();
   for (const button of document.querySelectorAll('.silence button'))
     button.addEventListener('click', () => copy(button));
   let folded = [];

@@ -11,19 +11,14 @@
 
 enum { NOT_RUN = 126 }; /* the least status of what a shell couldn't run */
 
-/* The repository in whose folder the script stands that would only try the program; NULL where it is none, or it stands built. */
-static char *trial_of(const char *witness)
+/* The repository of which this is the script that runs the program; NULL where it is none. A text of one's own. */
+static char *repository_of(const char *witness)
 {
     char *script = realpath(witness, NULL);
     char *top = script ? file_folder(script) : NULL;
+    char *build = top ? say_text("%s/tools/build", top) : NULL;
+    bool is = build && strcmp(file_base(witness), "witness") == 0 && file_is_command(build);
     free(script);
-    if (!top || strcmp(file_base(witness), "witness") != 0) {
-        free(top);
-        return NULL;
-    }
-    char *build = say_text("%s/tools/build", top);
-    const char *words[] = {build, "--is-current", NULL};
-    bool is = file_is_command(build) && brief_run(words, "", false) != 0;
     free(build);
     if (is)
         return top;
@@ -31,13 +26,22 @@ static char *trial_of(const char *witness)
     return NULL;
 }
 
-/* A trial takes a minute, so none is made only to look. */
+static bool stands_built(const char *top)
+{
+    char *build = say_text("%s/tools/build", top);
+    const char *words[] = {build, "--is-current", NULL};
+    bool is = brief_run(words, "", false) == 0;
+    free(build);
+    return is;
+}
+
+/* A trial takes minutes, so none is made only to look. */
 static void announce_trial(const char *witness, const char *top)
 {
     if (!file_is_command("rt"))
         fail("%s isn't built, and there is no rt to try it with: nothing was run", witness);
-    fprintf(stderr, "record: %s isn't built: a trial of it answers, in a minute a process, not proved on this machine; "
-        "make -C %s builds it\n", witness, top);
+    fprintf(stderr, "record: %s isn't built: a trial of it answers when the program has ended, in one to two minutes a "
+        "process, each time, not proved on this machine; make -C %s builds it\n", witness, top);
     setenv("WITNESS_TRIAL", "told", 1);
 }
 
@@ -49,6 +53,23 @@ static char *grader_in(const char *top)
         return built;
     free(built);
     return NULL;
+}
+
+/*
+ * The program itself in place of a script that looks each time whether it stands built. Whether only a trial of it can
+ * be had.
+ */
+static bool is_trial(struct settings *settings)
+{
+    char *top = repository_of(settings->witness);
+    bool is = top && !stands_built(top);
+    if (is)
+        announce_trial(settings->witness, top);
+    else if (top)
+        settings->witness = say_text("%s/crates/witness/out/witness", top);
+    settings->grader = is ? grader_in(top) : settings->witness;
+    free(top);
+    return is;
 }
 
 /* Whether it accepts that word, and that line after a header. */
@@ -63,20 +84,16 @@ static bool knows(const char *witness, const char *word, const char *line)
 
 void replayer_check(struct settings *settings)
 {
-    const char *witness = settings->witness, *words[] = {witness, "replay", NULL};
+    const char *witness = settings->witness, *words[] = {NULL, "replay", NULL};
     if (!file_is_command(witness))
         fail("%s can't be run, and nothing else replays: nothing was run", witness);
-    char *top = trial_of(witness);
-    if (top) {
-        announce_trial(witness, top);
-        settings->grader = grader_in(top);
-        free(top);
+    if (is_trial(settings)) {
         settings->quiet = true;
         return;
     }
+    witness = *words = settings->witness;
     if (brief_run(words, "", false) >= NOT_RUN)
         fail("%s can't be run: nothing was run", witness);
-    settings->grader = witness;
     if (settings->judge && !knows(witness, "migrate", ""))
         fail("%s doesn't know --judge: nothing was run", witness);
 }

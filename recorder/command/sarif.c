@@ -56,6 +56,11 @@ static void write_tool(struct objects *to, const struct findings *findings)
     object_text(to, "name", "record");
     object_text(to, "fullName", "Lanyardyuzu, recorder of lock orders");
     object_maybe(to, "version", findings->version);
+    if (findings->kit) {
+        object_open(to, "properties", '{');
+        object_text(to, "kit", findings->kit);
+        object_close(to, '{');
+    }
     object_open(to, "rules", '[');
     for (size_t i = 0; i < REPORT_OTHER; i++)
         write_rule(to, &kinds[i], i == REPORT_CIRCLE || i == REPORT_SELF);

@@ -23,6 +23,7 @@ struct settings {
     const char *grader;    /* the one that grades; NULL where it doesn't stand built */
     const char *acyclic;   /* the program that checks that orders have no circle */
     const char *program;   /* the program's name, as it is told */
+    const char *words;     /* the program with its words, as it was named */
     const char *misfit;    /* why the program can't be recorded, where that is known */
     const char *little;    /* why there was little room */
     const char *skip;      /* --skip: patterns, by colons */
@@ -39,6 +40,7 @@ struct settings {
     const char *before;    /* --before: a command before each steered run */
     int noise;             /* --noise: the longest pause before a second lock, in milliseconds; 0 for none */
     const struct again *again; /* how the program is begun again (steered.h) */
+    const char *colour;    /* --color; NULL is auto */
     bool suppressions, judge;
     bool no_errors;        /* errors in the use of locks aren't told */
     bool in_debugger;      /* the program's process is a debugger's child */

@@ -10,6 +10,7 @@
 #include <sys/resource.h>
 #include <unistd.h>
 
+#include "colour.h"
 #include "confirm.h"
 #include "equal.h"
 #include "follow.h"
@@ -164,8 +165,10 @@ void forget_recordings(struct run *run)
 
 void run_has_word(struct run *run, long speaker)
 {
-    if (!run->is_telling)
+    if (!run->is_telling) {
         output_begin(&run->output, run->settings.log, run->process);
+        run->output.is_coloured = colour_is_wanted(run->settings.colour);
+    }
     run->is_telling = true;
     /* While the program runs, others may come later: what was told by then has no numbers. */
     run->output.several = run->recordings > 1 && !output_is_parted(&run->output);

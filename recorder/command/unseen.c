@@ -12,7 +12,7 @@
 #include "memory.h"
 #include "search.h"
 
-enum { CHUNK_BYTES = 1 << 20 };
+enum { CHUNK_BYTES = 1 << 20, PYTHON = 2 };
 
 /* Kinds of locks: how a library that has them is called, and what stands in files that have them. */
 static const struct kind {
@@ -29,7 +29,7 @@ static const struct kind {
     {"locks of Rust's std", "^libstd-[0-9a-f]+\\.so$",
         TEXTS("library/std/src/", "3std3sys4sync5mutex5futex", "3std3sys4sync6rwlock5futex", "11futex_mutex5Mutex"), ALWAYS},
     {"locks of Go", NULL, TEXTS("Go buildinf:"), ALWAYS},
-    {"locks of Python", "^libpython[0-9.a-z]*\\.so", TEXTS("PyThread_acquire_lock"), BY_SEMAPHORES},
+    [PYTHON] = {"locks of Python", "^libpython[0-9.a-z]*\\.so", TEXTS("PyThread_acquire_lock"), BY_SEMAPHORES},
     {"locks of Java", "^libjvm\\.so", TEXTS(NULL), BY_SEMAPHORES},
     {"locks of Ruby", "^libruby[-0-9.a-z]*\\.so", TEXTS("rb_mutex_lock"), ALWAYS},
     {"locks of Mono", "^libmono(sgen)?-2\\.0\\.so", TEXTS("mono_monitor_enter"), BY_SEMAPHORES},
@@ -48,6 +48,7 @@ static const struct kind {
         OF_ATOMICS},
     {"waits for atomics of C++20", NULL, TEXTS("__atomic_wait_address", "18__waiter_pool_base", "__libcpp_atomic_wait"),
         ATOMICS},
+    {"locks of tokio", NULL, TEXTS("4sync15batch_semaphore9Semaphore", "src/sync/batch_semaphore.rs"), ALWAYS},
     {"absl::Mutex", "^libabsl_synchronization\\.so", TEXTS("AbslInternalPerThreadSemWait"), ALWAYS},
     {"locks of folly", "^libfolly\\.so", TEXTS("5folly6detail13futexWaitImpl", "5folly15SharedMutexImpl"),
         ALWAYS},
@@ -156,7 +157,7 @@ static char *and(char *list, const char *what)
     return longer;
 }
 
-char *unseen_locks(const char *const *object, size_t objects, bool has_semaphores)
+char *unseen_locks(const char *const *object, size_t objects, bool has_semaphores, bool python_tells)
 {
     struct look *look = take(sizeof *look);
     char *text = copy("");
@@ -164,7 +165,7 @@ char *unseen_locks(const char *const *object, size_t objects, bool has_semaphore
     for (size_t i = 0; i < objects; i++)
         look_at(look, object[i]);
     for (size_t i = 0; i < KINDS; i++)
-        if (look->found[i] && !(kinds[i].how == ATOMICS && has_found(look, OF_ATOMICS)))
+        if (look->found[i] && !(kinds[i].how == ATOMICS && has_found(look, OF_ATOMICS)) && !(python_tells && i == PYTHON))
             text = and(text, kinds[i].what);
     if (has_semaphores && !has_found(look, BY_SEMAPHORES))
         text = and(text, "semaphores");

@@ -11,8 +11,9 @@
 
 /*
  * The kinds of locks that the objects of these names have, by commas: a text of one's own, empty where there are none.
- * HAS_SEMAPHORES: some were waited for; they are named unless they may be of a language whose locks are.
+ * HAS_SEMAPHORES: some were waited for; they are named unless they may be of a language whose locks are. PYTHON_TELLS: each
+ * Python that ran has told of all of its program's locks, so they aren't named.
  */
-char *unseen_locks(const char *const *object, size_t objects, bool has_semaphores);
+char *unseen_locks(const char *const *object, size_t objects, bool has_semaphores, bool python_tells);
 
 #endif

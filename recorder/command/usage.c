@@ -3,7 +3,9 @@
 #include <stdarg.h>
 #include <stdio.h>
 #include <stdlib.h>
+#include <string.h>
 
+#include "../witness.h"
 #include "memory.h"
 
 enum { REFUSED = 2, FAILED = 126 };
@@ -49,17 +51,44 @@ static const char text[] =
     "  --on-report WORD     what the program does at a report, before it asks for the lock: stop, for a debugger, trap, abort or\n"
     "                 exit=N; libwitness is inside it then\n"
     "  --gdb          run it in gdb, which stands there\n"
+    "  --color[=WHEN] headings in colour: always, never, or auto, at a terminal where NO_COLOR isn't set, as without it\n"
     "  --quiet        tell nothing before the program has ended\n"
     "  --show PID|FILE      what there is so far of a recorded program that goes on, or of a recorder's file\n"
     "  --trace FILE   run nothing, and write the trace of a recorder's file to standard output\n"
     "  --clean FILE   run nothing, and write whether a trace is clean: which line stands against it, if any\n"
     "  --help         this text\n"
+    "  --version      the version, and the kit by which the verifier is proved\n"
+    "  --completion SHELL   what bash, zsh or fish needs to complete these options\n"
     "Locks that aren't pthread's (futexes, atomics) are recorded where the program tells of them by the macros of\n";
 
 void usage(const char *here)
 {
     fputs(text, stdout);
     printf("%s/witness.h, a header for C and C++ with no library to link.\n", here);
+}
+
+char *usage_of(const char *option)
+{
+    char *begin = say_text("\n  %s", option), *end = begin + strlen(begin);
+    const char *at = text;
+    while ((at = strstr(at, begin)) && at[end - begin] != ' ' && at[end - begin] != '[')
+        at++;
+    free(begin);
+    if (!at)
+        return copy("");
+    const char *line = strchr(at + 1, '\n'), *words = strstr(at + 3, "  ");
+    /* Between the two stands what the option takes. One blank is behind it where there is no room for more. */
+    if (!words || words > line) {
+        words = strchr(at + 3, ' ') + 1;
+        words += strspn(words, "ABCDEFGHIJKLMNOPQRSTUVWXYZ|");
+    }
+    words += strspn(words, " ");
+    return copy_bytes(words, (size_t)(line - words));
+}
+
+void usage_version(const char *command)
+{
+    printf("%s " WITNESS_VERSION "\n" WITNESS_KIT "\n", command);
 }
 
 static _Noreturn void leave(int status, const char *format, va_list words, const char *after)

@@ -7,6 +7,12 @@
 /* Tells on standard output how it is used; `here` is the folder of the recorder's sources. */
 void usage(const char *here);
 
+/* What the option does, its line in the text of usage(); an empty text where it has none. A text of one's own. */
+char *usage_of(const char *option);
+
+/* Tells on standard output the version of that command, and the kit by which what it stands on is proved. */
+void usage_version(const char *command);
+
 /* From here on lines begin with the name of that command in place of `record`; it lasts to the end. */
 void usage_speaks_as(const char *command);
 

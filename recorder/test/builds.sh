@@ -4,7 +4,7 @@
 # plant_small TO: the scripts and the builder as they are, and small sources. All is older than what will be built, and nothing is.
 plant_small() {
     rm -rf "$1" cache && mkdir -p "$1/command/below" "$1/malloc" && cp -R "$recorder/build" "$recorder/record" "$recorder/orders" "$recorder/builder" "$1"
-    : >"$1/command/page.css" && : >"$1/command/below/note" && : >"$1/format.h" && : >"$1/recorder.h"
+    : >"$1/command/page.css" && : >"$1/command/below/note" && : >"$1/format.h" && : >"$1/witness.h" && : >"$1/recorder.h"
     printf '%s\n' '#include "recorder.h"' 'int is_recorder(void) { return 1; }' >"$1/start.c"
     echo 'int has_hooks(void) { return 1; }' >"$1/malloc/hooks.c"
     cp "$duty" "$1"
@@ -93,14 +93,14 @@ if wanted builds; then
     [ "$status" -eq 0 ] && echo "--orders in $work/small" | diff - built.out && [ ! -s made ]
     tell builds "the command by its other name" $?
     for line in 'start.c recorder.so' 'malloc/hooks.c blocks.so' 'recorder.h recorder.so' 'command/main.c record' 'command/page.css record' 'command/below/note record' \
-        'format.h record recorder.so' 'build ' 'builder/place.h builder record recorder.so blocks.so' 'builder/anew builder record recorder.so blocks.so'; do
+        'format.h record recorder.so' 'witness.h record recorder.so' 'build ' 'builder/place.h builder record recorder.so blocks.so' 'builder/anew builder record recorder.so blocks.so'; do
         plant_small small && built small/build
         later "small/${line%% *}"
         built small/build
         made_are "$work/small/out" ${line#* }
         tell builds "what a newer ${line%% *} is in" $?
     done
-    for word in --help --show --trace --clean; do
+    for word in --help -h --version --completion --show --trace --clean; do
         plant_small small
         built small/build $word
         made_are "$work/small/out" builder record
@@ -134,7 +134,7 @@ if wanted builds; then
     built small/build
     sed -i '/^refused$/d' built.err
     refused_as "the recorder wasn't built" && is_left tmp '' && is_left small build builder command command/below command/below/note \
-        command/main.c command/page.css format.h libwit_condensed_c.a malloc malloc/hooks.c orders record recorder.h start.c $(cd small && echo builder/*)
+        command/main.c command/page.css format.h libwit_condensed_c.a malloc malloc/hooks.c orders record recorder.h start.c witness.h $(cd small && echo builder/*)
     tell builds "a compiler that makes nothing of the builder" $?
     rm refuses
     # A folder that leaves no other than one for this run.

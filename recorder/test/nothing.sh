@@ -338,6 +338,7 @@ END
     compile opens -Wl,-rpath,"$work/standing"
     mkdir -p standing
     for line in "locks of Ruby:libruby-3.1.so.3.1:" "locks of folly:libfolly.so.0.58.0:" "QMutex:libQt6Core.so.6:" \
+        "locks of tokio:libten.so:_ZN5tokio4sync15batch_semaphore9Semaphore7acquire" "locks of tokio:libeleven.so:tokio-1.24.2/src/sync/batch_semaphore.rs" \
         "locks of GAsyncQueue:libsix.so:g_async_queue_lock" "absl::Mutex:libabsl_synchronization.so.20220623:" "locks of Java:libjvm.so:" \
         "locks of Go:libone.so:Go buildinf:" "absl::Mutex:libtwo.so:AbslInternalPerThreadSemWait_lts_20220623" \
         "locks of Mono:libmonosgen-2.0.so.1:" "locks of .NET:libcoreclr.so:" "locks of Guile:libguile-3.0.so.1:" "locks of ECL:libecl.so.21.2:" \

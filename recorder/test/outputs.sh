@@ -9,8 +9,8 @@ build_driver() {
     folder=$2
     shift 2
     sources=
-    for module in alarms describe escape findings hang html html_card html_parts json layout layout_rows map memory notes objects orders page \
-        picture place report sarif sarif_place sarif_result single texts thread_label; do
+    for module in alarms describe escape findings hang html html_card html_list html_parts json layout layout_rows map memory notes objects \
+        order_parts orders page picture place report report_orders sarif sarif_place sarif_result single texts thread_label; do
         sources="$sources $recorder/command/$module.c"
     done
     mkdir -p "$folder" && (cd "$folder" && "$compiler" -std=c11 -D_GNU_SOURCE -g -Wall -Wextra -Werror \
@@ -87,6 +87,9 @@ whole() {
 test_runs() {
     compile reversal && compile kinds && compile deadlock && compile forking && compile handover
     recorded_to run -- ./reversal && whole run && said 0 '1 report, 0 circles, 1 process' &&
+        is run.json record "\"$(sed -n 1p "$here/../../VERSION")\"" kit "\"$(sed -n 2p "$here/../../VERSION")\"" &&
+        is run.sarif runs.0.tool.driver.version "\"$(sed -n 1p "$here/../../VERSION")\"" \
+            runs.0.tool.driver.properties.kit "\"$(sed -n 2p "$here/../../VERSION")\"" &&
         is run.json summary '"1 report, 0 circles, 1 process"' program '"reversal"' reports.# 1 reports.0.kind '"reversal"' \
             reports.0.asked.site '"reversal.c:19"' reports.0.asked.callers.0.function '"checkpoint"' \
             reports.0.asked.thread.maker '"main"' reports.0.single.grade '"threads"' reports.0.single.apart true \
@@ -97,6 +100,10 @@ test_runs() {
         grep -q "<p class='single bad'>single locks: both orders, the same locks, threads [0-9]* and [0-9]*; apart" run.html &&
         grep -q "<mark class='row' data-line='19'>    pthread_mutex_lock(&amp;pool);" run.html
     tell outputs "of a run with a reversal" $?
+    is run.json reports.0.advice.0 "\"In this run the two orders couldn't meet: ask whether the program keeps to that.\"" &&
+        grep -q "<p class='origin'>record $(sed -n 1p "$here/../../VERSION"), 20[-0-9]* [0-9:]* [A-Z]*: <code>./reversal</code></p>" run.html &&
+        grep -q '<td><a href=.#report-1.>1</a></td><td>Lock order reversal</td>.*the same locks, several threads; apart</td><td>yes</td>' run.html
+    tell outputs "its origin, its entry and its advice" $?
     compile single && recorded_to run --depth 1 -- ./single twins && whole run &&
         is run.json reports.0.kind '"duplicate"' reports.0.counts true reports.0.single.elsewhere.# 1 \
             reports.0.single.elsewhere.0.file '"single.c"' reports.0.single.elsewhere.0.line 56 &&
@@ -110,7 +117,9 @@ test_runs() {
     printf '%s\n' '"made()<main()" "made()<main()"' >known
     recorded_to run --ignore known -- ./kinds && whole run &&
         is run.json reports.# 2 reports.0.kind '"duplicate"' reports.0.silenced false reports.1.silenced true \
-            reports.0.single.grade '"types"' reports.0.counts false &&
+            reports.0.single.grade '"types"' reports.0.counts false \
+            reports.0.advice.0 '"No single locks were taken both ways: ask whether another run can take them the other way round."' &&
+        grep -q "Two locks of one type, which doesn&#39;t count for the status" run.html &&
         is run.sarif runs.0.results.0.level '"note"' runs.0.results.1.level '"warning"'
     tell outputs "of one that it silences" $?
     recorded_to run -- timeout -s KILL 3 ./deadlock

@@ -226,7 +226,26 @@ def shown(path):
         each = next(card for card in cards if card[1]["data-kind"] == kind)
         advice = re.search(r"What to do(.*?)(The line for|$)", re.sub(r"\s+", " ", each[2])).group(1)
         want(f"sentences for {kind}", len(re.findall(r"[.](?: |$)", advice.strip())), 3)
-    want("pictures", len(found.all("svg")), 1)
+    pictures = [each[0] == "svg" for each in found.elements]
+    want("pictures, of six reports and two parts of the orders", sum(pictures), 8)
+    # Each report of orders has one: which types are its boxes, and what goes against the orders.
+    for kind, words in (("circle", ["pool", "journal"]), ("self", ["queue"]), ("reversal", ["pool", "journal"])):
+        start = found.elements.index(next(card for card in cards if card[1]["data-kind"] == kind))
+        drawn = next(each for each in found.elements[start:] if each[0] == "svg")
+        boxes = [word for word in words if word not in drawn[2]]
+        want(f"boxes in the picture of a {kind}", boxes, [])
+    entries = [re.sub(r"\s+", " ", each[2]).strip() for each in found.all("tr")]
+    want("the list of all reports", entries[1:8], [
+        "1Lock order reversaljournal, poolyes", "2Two locks of one typemake(mutex)<main(page[])yes",
+        "3Lock order reversaldisk, inode, bufferyes", "4Threads that wait for one anotherjournal, poolyes",
+        "5A thread that waits for itselfqueueyes", "6The recordingyes", "7Lock order reversala, bsilenced"])
+    want("how many count", "6 of 7 count for the status" in re.sub(r"\s+", " ", found.source), True)
+    origin = [each[2] for each in found.all("p", class_="origin")]
+    want("version and command line", origin[0].startswith("record 1.0") and origin[0].endswith(": ./bank --once 'two words'"), True)
+    links = [each[1]["href"] for each in found.all("a", class_="link")]
+    want("links of reports to themselves", sorted(links), sorted("#" + each[1]["id"] for each in cards))
+    folds = [each for each in found.all("details") if each[1].get("class") == "body"]
+    want("reports that fold, and those that stand open", (len(folds), sum("open" in each[1] for each in folds)), (7, 6))
 
 
 def odd(page_path, json_path, sarif_path):
@@ -253,9 +272,18 @@ def numbers(text):
 
 
 def picture(path):
+    """Each picture of the page: those of reports, and, behind the heading of the orders, their parts."""
     found = Page(path)
-    pictures = [number for number, each in enumerate(found.elements) if each[0] == "svg"] + [len(found.elements)]
-    drawing, found.elements = found.elements[pictures[0]], found.elements[pictures[0]:pictures[1]]
+    whole = found.elements
+    orders = next(number for number, each in enumerate(whole) if each[1].get("id") == "orders")
+    pictures = [number for number, each in enumerate(whole) if each[0] == "svg"] + [len(whole)]
+    want("pictures", len(pictures) > 1, True)
+    for begin, end in zip(pictures, pictures[1:]):
+        found.elements = whole[begin:end]
+        drawn(found, whole[begin], begin > orders)
+
+
+def drawn(found, drawing, is_of_orders):
     width, height = float(drawing[1]["width"]), float(drawing[1]["height"])
     boxes = []
     for _, at, _ in found.all("rect"):
@@ -277,8 +305,8 @@ def picture(path):
         for x, y in (begin, end):
             at_box = [1 for x2, y2, w2, h2 in boxes if x2 <= x <= x2 + w2 and min(abs(y - y2), abs(y - y2 - h2)) < 0.2]
             want(f"a box at {x}, {y}", len(at_box), 1)
-        want("an order goes down, and what goes against it up", end[1] > begin[1], "reversal" not in arrow["class"])
-    return len(boxes), len(arrows)
+        if is_of_orders:
+            want("an order goes down, and what goes against it up", end[1] > begin[1], "reversal" not in arrow["class"])
 
 
 def value(path, way, wanted):

@@ -2,7 +2,7 @@
  * driver html|json|sarif CASE: writes the findings of a case as a page, as JSON or as SARIF on standard output.
  *
  * A case has a line for each thing, in which fields are parted by tabs, and \xHH is that byte. An empty field is: not known.
- *   program NAME, directory NAME, ignore NAME, version NAME, built SECONDS   of the whole run
+ *   program NAME, directory NAME, ignore NAME, version NAME, kit NAME, words WORDS, built SECONDS   of the whole run
  *   say TEXT                          a line that was told
  *   process NUMBER NAME               a further process; what follows is of it
  *   thread NUMBER NAME MAKER SITE
@@ -148,6 +148,10 @@ static bool read_line(const char *word, char **field, size_t fields)
         findings.directory = copy(field[0]);
     else if (!strcmp(word, "ignore"))
         findings.ignore = copy(field[0]);
+    else if (!strcmp(word, "words"))
+        findings.words = copy(field[0]);
+    else if (!strcmp(word, "kit"))
+        findings.kit = copy(field[0]);
     else if (!strcmp(word, "version"))
         findings.version = copy(field[0]);
     else if (!strcmp(word, "built"))
