@@ -39,9 +39,13 @@ struct plan_met {
 };
 enum { PLAN_SEVERAL_THREADS = -1 };
 
-/* An order of the report: where its first lock is taken, and where its second one is asked for. */
+/*
+ * An order of the report: where its first lock is taken, and where its second one is asked for. A lock that is a variable is
+ * known by where it stands in its object; of an empty name any lock counts.
+ */
 struct plan_order {
     struct plan_chain hold, ask;
+    struct plan_code hold_lock, ask_lock;
     uint32_t holds_back; /* a thread waits before the first lock, too */
     struct plan_met held, asked;
 };

@@ -135,6 +135,23 @@ static bool is_chain(const struct plan_chain *chain, const uint32_t *found, uint
     return is;
 }
 
+/* Whether the plan's lock is this one; it may be any. */
+static bool is_lock(const struct lock *lock, const struct plan_code *wanted)
+{
+    uint32_t object = lock->type->object;
+    return !*wanted->name
+        || (object && object_offset(object, atomic_load(&lock->address)) == wanted->offset
+            && strncmp(basename(object_path(object)), wanted->name, sizeof wanted->name) == 0);
+}
+
+static bool holds(const struct thread *thread, const struct plan_code *wanted)
+{
+    for (uint32_t i = 0; i < thread->count; i++)
+        if (is_lock(thread->held[i].lock, wanted))
+            return true;
+    return false;
+}
+
 static void count_met(struct plan_met *met)
 {
     int32_t thread = gettid(), known = 0;
@@ -157,11 +174,12 @@ static struct arrival arrives(const struct request *request)
     uint32_t count = callers(request->caller, PLAN_FRAMES, found);
     for (uint32_t i = plan->orders; i-- > 0;) {
         struct plan_order *order = &plan->order[i];
-        if (request->thread->count > 0 && is_chain(&order->ask, found, count)) {
+        if (is_lock(request->lock, &order->ask_lock) && holds(request->thread, &order->hold_lock)
+            && is_chain(&order->ask, found, count)) {
             count_met(&order->asked);
             arrival.ask = i;
         }
-        if (is_chain(&order->hold, found, count)) {
+        if (is_lock(request->lock, &order->hold_lock) && is_chain(&order->hold, found, count)) {
             count_met(&order->held);
             if (order->holds_back)
                 arrival.hold = i;

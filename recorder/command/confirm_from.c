@@ -64,10 +64,23 @@ static struct code_place code_of_value(struct reading *reading, const struct val
         (uint64_t)number_of(value, "offset"), number_of(value, "named") != 0};
 }
 
+/* The variable that the type's lock is. */
+static struct code_place variable_of(struct reading *reading, const struct value *report, const char *type)
+{
+    for (const struct value *each = list_of(report, "variables"); each && type; each = each->next) {
+        const char *found = text_of(each, "type");
+        if (found && strcmp(found, type) == 0)
+            return code_of_value(reading, each);
+    }
+    return (struct code_place){0};
+}
+
 /* Where `value` is NULL, nothing is known of the place. */
-static struct planned_place place_of_value(struct reading *reading, const struct value *value)
+static struct planned_place place_of_value(
+    struct reading *reading, const struct value *value, const struct value *report, const char *type)
 {
     struct planned_place place = {.site = text_of(value, "site"), .at = (unsigned long)number_of(value, "at")};
+    place.lock = variable_of(reading, report, type);
     for (const struct value *call = list_of(value, "calls"); call && place.calls < CALLS_MOST; call = call->next)
         place.call[place.calls++]
             = (struct call){code_of_value(reading, call), code_of_value(reading, value_of(call, "rest"))};
@@ -78,12 +91,16 @@ static void add_orders(struct reading *reading, struct planned *planned, const s
 {
     const struct value *held = list_of(report, "held");
     for (const struct value *step = list_of(report, "established"); step; step = step->next) {
-        struct planned_place taken = place_of_value(reading, value_of(step, "taken")), asked = place_of_value(reading, step);
+        const struct value *first = value_of(step, "taken");
+        struct planned_place taken = place_of_value(reading, first, report, text_of(step, "from"));
+        struct planned_place asked = place_of_value(reading, step, report, text_of(step, "to"));
         planned_adds(planned, &taken, &asked);
     }
     while (held && held->next)
         held = held->next;
-    struct planned_place taken = place_of_value(reading, held), asked = place_of_value(reading, value_of(report, "asked"));
+    const struct value *last = value_of(report, "asked");
+    struct planned_place taken = place_of_value(reading, held, report, text_of(held, "type"));
+    struct planned_place asked = place_of_value(reading, last, report, text_of(last, "type"));
     planned_adds(planned, &taken, &asked);
 }
 

@@ -63,20 +63,24 @@ static void add_stack(struct gathering *gathering, const struct stack *stack)
         add(gathering, NULL, gathering->told);
 }
 
+struct code_place code_place_in(struct sites *sites, uint32_t number, uint64_t offset)
+{
+    const struct object *object = object_of(sites->declared, number);
+    if (!object->path)
+        return (struct code_place){0};
+    const char *build_id = object->binary ? binary_file(object->binary)->build_id : NULL;
+    return (struct code_place){texts_copy(sites->texts, object->path, strlen(object->path)),
+        build_id ? texts_copy(sites->texts, build_id, strlen(build_id)) : NULL, offset, false};
+}
+
 static struct code_place code_place_of(struct sites *sites, const struct place *place)
 {
-    const struct declared *declared = sites->declared;
     if (place->kind == PLACE_SITE) {
         const char *site = place->site->frame[0].site, *colon = strrchr(site, ':');
         return (struct code_place){
             texts_copy(sites->texts, site, (size_t)(colon - site)), NULL, strtoul(colon + 1, NULL, 10), true};
     }
-    const struct object *object = object_of(declared, place->object);
-    if (place->kind != PLACE_CALL || !object->path)
-        return (struct code_place){0};
-    const char *build_id = object->binary ? binary_file(object->binary)->build_id : NULL;
-    return (struct code_place){texts_copy(sites->texts, object->path, strlen(object->path)),
-        build_id ? texts_copy(sites->texts, build_id, strlen(build_id)) : NULL, place->offset, false};
+    return place->kind == PLACE_CALL ? code_place_in(sites, place->object, place->offset) : (struct code_place){0};
 }
 
 /* The calls up to the first one that can't be found again. */

@@ -258,6 +258,22 @@ static void write_confirmed(struct objects *to, const struct confirmed *confirme
     object_close(to, '{');
 }
 
+/* The variables that the types' locks are, where a type has one lock alone: by these a later run knows them. */
+static void write_variables(struct objects *to, const struct notes *notes, const char *const *type, size_t types)
+{
+    object_open(to, "variables", '[');
+    for (size_t i = 0; i < types; i++) {
+        struct code_place variable = notes_variable(notes, type[i]);
+        if (!variable.object)
+            continue;
+        object_open(to, NULL, '{');
+        object_text(to, "type", type[i]);
+        write_code(to, &variable);
+        object_close(to, '{');
+    }
+    object_close(to, '[');
+}
+
 static void write_report(struct objects *to, const struct finding *finding)
 {
     const struct notes *notes = finding->is_silenced ? &finding->found->silenced_notes : &finding->found->notes;
@@ -280,6 +296,7 @@ static void write_report(struct objects *to, const struct finding *finding)
     for (size_t i = 0; i < types; i++)
         object_text(to, NULL, type[i]);
     object_close(to, '[');
+    write_variables(to, notes, type, types);
     write_locks(to, finding->report);
     write_steps(to, finding->report, notes);
     write_waits(to, finding->report);

@@ -65,8 +65,23 @@ char *notes_whole(const struct notes *notes, const char *text, size_t length)
 
 const struct lock_name *notes_lock(const struct notes *notes, unsigned number)
 {
-    static const struct lock_name none = {"", "", ""};
+    static const struct lock_name none = {.name = "", .type = "", .class = ""};
     return number > 0 && number <= notes->locks ? &notes->lock[number - 1] : &none;
+}
+
+struct code_place notes_variable(const struct notes *notes, const char *type)
+{
+    struct code_place found = {0};
+    for (size_t i = 0; i < notes->locks; i++) {
+        const struct code_place *variable = &notes->lock[i].variable;
+        if (strcmp(notes->lock[i].type, type) != 0)
+            continue;
+        if (!variable->object
+            || (found.object && (found.offset != variable->offset || strcmp(found.object, variable->object) != 0)))
+            return (struct code_place){0};
+        found = *variable;
+    }
+    return found;
 }
 
 const struct alias *notes_alias(const struct notes *notes, const char *type)

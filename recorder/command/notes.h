@@ -84,6 +84,7 @@ struct alias {
 struct lock_name {
     const char *name, *type;
     const char *class; /* mtx, rw */
+    struct code_place variable; /* where it stands, of one that is a variable with the type's name; else no object */
 };
 
 struct notes {
@@ -119,6 +120,8 @@ char *notes_whole(const struct notes *notes, const char *text, size_t length);
 /* The lock of that number in the trace; one without names where there is none. */
 const struct lock_name *notes_lock(const struct notes *notes, unsigned number);
 
+/* The variable that all locks of the type are; one without an object where there is none, or several. */
+struct code_place notes_variable(const struct notes *notes, const char *type);
 /* What the type of that name is called besides; NULL where there is no such type. */
 const struct alias *notes_alias(const struct notes *notes, const char *type);
 /* The site of a place as it stands in a trace: of `@:NUMBER` the spot's, else the place itself. */

@@ -89,9 +89,27 @@ static void fill_chain(struct plan_chain *chain, const struct planned_place *pla
     }
 }
 
-static bool are_equal(const struct plan_order *one, const struct plan_order *other)
+static bool are_of_one_place(const struct plan_order *one, const struct plan_order *other)
 {
     return memcmp(&one->hold, &other->hold, sizeof one->hold) == 0 && memcmp(&one->ask, &other->ask, sizeof one->ask) == 0;
+}
+
+static bool are_equal(const struct plan_order *one, const struct plan_order *other)
+{
+    return are_of_one_place(one, other)
+        && memcmp(&one->hold_lock, &other->hold_lock, sizeof one->hold_lock) == 0
+        && memcmp(&one->ask_lock, &other->ask_lock, sizeof one->ask_lock) == 0;
+}
+
+/* The plan is full: an order of the same place stands for that one, too, and counts with any locks. */
+static void widen(struct plan *plan, const struct plan_order *order)
+{
+    for (uint32_t i = 0; i < plan->orders; i++)
+        if (are_of_one_place(&plan->order[i], order)) {
+            memset(&plan->order[i].hold_lock, 0, sizeof plan->order[i].hold_lock);
+            memset(&plan->order[i].ask_lock, 0, sizeof plan->order[i].ask_lock);
+            return;
+        }
 }
 
 void planned_begins(struct planned *planned)
@@ -107,9 +125,13 @@ void planned_adds(struct planned *planned, const struct planned_place *hold, con
     struct plan_order *order = take(sizeof *order);
     fill_chain(&order->hold, hold);
     fill_chain(&order->ask, ask);
+    fill_code(&order->hold_lock, &hold->lock);
+    fill_code(&order->ask_lock, &ask->lock);
     uint32_t at = 0;
     while (at < plan->orders && !are_equal(&plan->order[at], order))
         at++;
+    if (at == PLAN_ORDERS)
+        widen(plan, order);
     if (order->ask.frames > 0 && at == plan->orders && at < PLAN_ORDERS) {
         plan->order[at] = *order;
         planned->ask_site[at] = ask->site ? ask->site : "?:0";
@@ -124,9 +146,9 @@ void planned_adds(struct planned *planned, const struct planned_place *hold, con
     free(order);
 }
 
-static struct planned_place place_of_spot(const struct notes *notes, size_t number)
+static struct planned_place place_of_spot(const struct notes *notes, size_t number, const char *type)
 {
-    struct planned_place place = {0};
+    struct planned_place place = {.lock = notes_variable(notes, type)};
     const struct spot *spot = number > 0 && number <= notes->spots ? &notes->spot[number - 1] : NULL;
     if (!spot)
         return place;
@@ -140,9 +162,19 @@ static struct planned_place place_of_spot(const struct notes *notes, size_t numb
     return place;
 }
 
-static void add_spots(struct planned *planned, const struct notes *notes, size_t held, size_t asked)
+static void add_step(struct planned *planned, const struct notes *notes, const struct report_line *step)
 {
-    struct planned_place hold = place_of_spot(notes, held), ask = place_of_spot(notes, asked);
+    struct planned_place hold = place_of_spot(notes, step->held_spot, step->type);
+    struct planned_place ask = place_of_spot(notes, step->spot, step->other);
+    planned_adds(planned, &hold, &ask);
+}
+
+static void add_last(struct planned *planned, const struct notes *notes, const struct report *report)
+{
+    const struct report_line *first = &report->line[report->first], *last = &report->line[report->last];
+    struct planned_place hold = {0}, ask = place_of_spot(notes, last->spot, last->type);
+    if (report->first)
+        hold = place_of_spot(notes, first->spot, first->type);
     planned_adds(planned, &hold, &ask);
 }
 
@@ -153,8 +185,8 @@ bool planned_of(struct planned *planned, const struct report *report, const stru
         return false;
     for (size_t i = 0; i < report->lines; i++)
         if (report->line[i].kind == LINE_STEP)
-            add_spots(planned, notes, report->line[i].held_spot, report->line[i].spot);
-    add_spots(planned, notes, report->first ? report->line[report->first].spot : 0, report->line[report->last].spot);
+            add_step(planned, notes, &report->line[i]);
+    add_last(planned, notes, report);
     return planned->plan.orders > 0;
 }
 

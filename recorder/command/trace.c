@@ -217,24 +217,35 @@ static void put_try(struct writing *writing, const struct line *line)
     put_placed(writing, line, 4);
 }
 
+/* The variable that the lock of an `init` is; its object is 0 where it is in none. */
+static struct variable variable_in(struct writing *writing, const struct line *line)
+{
+    struct variable variable = {0};
+    if (line->count > 6 && !read_variable(writing->making->declared, line, 6, &variable))
+        variable.object = 0;
+    return variable;
+}
+
 /* A lock's name: by its variable, or with its number among those of the type. */
-static const char *lock_name(struct writing *writing, const struct line *line, const struct named_type *type,
+static const char *lock_name(struct writing *writing, const struct variable *variable, const struct named_type *type,
     uint32_t number)
 {
     const struct declared *declared = writing->making->declared;
-    struct variable variable;
-    if (line->count > 6 && read_variable(declared, line, 6, &variable))
-        return variable_lock_in(declared, type, &variable);
-    return numbered_lock_in(declared, type, number);
+    return variable->object ? variable_lock_in(declared, type, variable) : numbered_lock_in(declared, type, number);
 }
 
-static void keep_lock(struct notes *notes, const char *name, const char *type, struct field class)
+static void keep_lock(struct writing *writing, const char *name, const char *type, const struct line *line,
+    const struct variable *variable)
 {
+    struct notes *notes = writing->notes;
+    struct field class = line->count > 2 ? line->field[2] : (struct field){"", 0};
+    bool is_type = variable->object && strcmp(name, type) == 0;
     if (notes)
         ADD(notes->lock, notes->locks, notes->lock_room) = (struct lock_name){
             .name = texts_copy(notes->texts, name, strlen(name)),
             .type = texts_copy(notes->texts, type, strlen(type)),
             .class = texts_copy(notes->texts, class.at, class.length),
+            .variable = code_place_in(writing->making->sites, is_type ? variable->object : 0, variable->offset),
         };
 }
 
@@ -252,9 +263,10 @@ static void put_init(struct writing *writing, const struct line *line)
         own = (uint32_t)++type->made;
     else if (!field_number(line, 5, UINT32_MAX - 1, &own))
         writing->is_odd = true;
-    const char *name = lock_name(writing, line, type, own);
+    struct variable variable = variable_in(writing, line);
+    const char *name = lock_name(writing, &variable, type, own);
     ADD(writing->lock, writing->locks, writing->lock_room) = name;
-    keep_lock(writing->notes, name, type->name, line->count > 2 ? line->field[2] : (struct field){"", 0});
+    keep_lock(writing, name, type->name, line, &variable);
     if (line->count < 4) {
         put_line(writing, line);
         return;

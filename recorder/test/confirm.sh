@@ -1,11 +1,12 @@
-# Tests of `record --confirm`: models of programs that can hang (confirm/wrong.c, confirm/observers.cc), and of such as only
-# look like that (confirm/right.c). recorder/test/run has the functions.
+# Tests of `record --confirm`: models of programs that can hang (confirm/wrong.c, confirm/one_place.c, confirm/observers.cc),
+# and of such as only look like that (confirm/right.c). recorder/test/run has the functions.
 
-# build_models: wrong, right, observers and observers_0, here.
+# build_models: wrong, right, one_place, observers and observers_0, here.
 build_models() {
     [ ! -x observers_0 ] || return 0
     cp "$here"/confirm/* . && "${CC:-cc}" -g -O1 -Wall -Wextra -Werror -pthread -o wrong wrong.c &&
-        "${CC:-cc}" -g -O1 -Wall -Wextra -Werror -pthread -o right right.c && c++ -g -O1 -pthread -o observers observers.cc &&
+        "${CC:-cc}" -g -O1 -Wall -Wextra -Werror -pthread -o right right.c &&
+        "${CC:-cc}" -g -O1 -Wall -Wextra -Werror -pthread -o one_place one_place.c && c++ -g -O1 -pthread -o observers observers.cc &&
         c++ -g -O0 -pthread -o observers_0 observers.cc
 }
 
@@ -102,6 +103,17 @@ END
     RUNS==1 confirmed_run ./wrong far
     grep -q 'not confirmed in 1 run: @ wrong.c:[0-9]* was reached 1 time, ' recorded.err
     tell steered "--confirm=1" $?
+
+    # A plan of places alone spends its pauses on the other eight.
+    RUNS==1 confirmed_run --json ten.json ./one_place ten
+    grep -q "$hangs" recorded.err && grep -q '"first" and "second" @\|"second" and "first" @' recorded.err
+    tell steered "of the ten locks that one function takes, the two of the report have the pauses" $? || cat recorded.err
+    RECORD_FRAMES=8 "$record" --confirm-from ten.json --confirm=1 ./one_place ten >recorded.out 2>recorded.err
+    grep -q "$hangs" recorded.err
+    tell steered "and so they have where the report is an earlier run's" $? || cat recorded.err
+    RUNS==1 confirmed_run ./one_place table
+    grep -q "$hangs" recorded.err
+    tell steered "a circle of ten orders at one place, for which a plan has no room" $? || cat recorded.err
 
     echo accounts >model
     RECORD_FRAMES=8 "$record" --on-deadlock kill --confirm -- sh -c 'read model; ./wrong $model' <model >recorded.out 2>recorded.err
