@@ -1,0 +1,6 @@
+pub mod Blocks
+pub mod Held
+pub mod Importing
+pub mod Names
+pub mod Outputs
+pub mod Reading
