@@ -2,7 +2,7 @@
 -- and after them. A type has two locks: one that stands for what is held, and one that stands for what
 -- is asked for.
 use Rattle.std.specs.Prelude.{ℕ, ◌+◌, ◌*◌, Bool, not, ◌&&◌, ◌||◌, nat_le, List, [], ◌∷◌, ◌++◌, length}
-use Rattle.std.specs.Prelude.{Option, None, Some, is_some, codes, if◌then◌else◌}
+use Rattle.std.specs.Prelude.{Option, None, Some, codes, if◌then◌else◌}
 use Rattle.std.specs.List.{list_all}
 use Rattle.std.specs.Fmt.{decimal}
 use Rattle.wit_model.specs.Trace.Spelling.{class_text}
@@ -10,7 +10,7 @@ use Rattle.wit_import.specs.declared.blocks.TheConstants.{MOST_TYPES}
 use Rattle.wit_import.specs.declared.events.Acquisition.{Acquisition}
 use Rattle.wit_import.specs.declared.held.Holding.{Holding}
 use Rattle.wit_import.specs.Held.{is_of, asks_again}
-use Rattle.wit_import.specs.Names.{place_in, with_name}
+use Rattle.wit_import.specs.Names.{has_name, place_in, with_name}
 
 -- ---- what was written so far: the names of the types, and the pairs of them
 pub record Told : Type 0 where
@@ -20,9 +20,6 @@ pub record Told : Type 0 where
 -- a pair as a text: no name has a quotation mark
 abbrev pub pair_text : List ℕ → List ℕ → List ℕ
 pair_text a b = a ++ 34 ∷ b
-
-abbrev pub has_name : List (List ℕ) → List ℕ → Bool
-has_name names name = is_some (place_in names name)
 
 -- ---- whether a request is written
 

@@ -6,6 +6,7 @@ mod blocks;
 mod events;
 mod held;
 mod importing;
+pub mod laws;
 mod names;
 mod pairs;
 mod reading;

@@ -1,7 +1,7 @@
 //! Sets of names.
 
-ghost use Rattle.std.specs.Prelude.{◌≡◌, ◌++◌, ◌∷◌, [], None, OnOk, is_some, length};
-ghost use Rattle.wit_import.specs.Names.{place_in, with_name, written};
+ghost use Rattle.std.specs.Prelude.{◌≡◌, OnOk, length};
+ghost use Rattle.wit_import.specs.Names.{has_name, place_in, with_name, written};
 
 use indexmap::IndexSet;
 use std::alloc::{AllocError, Global};
@@ -25,9 +25,9 @@ pub fn count(names: &Names) -> usize
 
 /// Whether a name is there.
 pub fn has_name(names: &Names, name: &[u8]) -> bool
-    ensures { result ≡ is_some (place_in (written names.now.keys) name.now) }
+    ensures { result ≡ has_name (written names.now.keys) name.now }
 {
-    place_of(names, name).is_some()
+    names.contains(name)
 }
 
 /// A name that isn't there goes last.
@@ -36,16 +36,6 @@ pub fn has_name(names: &Names, name: &[u8]) -> bool
 /// Want of memory alone.
 pub fn add_name(alloc: Global, names: &mut Names, name: &[u8]) -> Result<(), AllocError>
     ensures { OnOk result (written names.new.keys ≡ with_name (written names.old.keys) name.now) }
-{
-    if has_name(names, name) {
-        return Ok(());
-    }
-    add_last(alloc, names, name)
-}
-
-fn add_last(alloc: Global, names: &mut Names, name: &[u8]) -> Result<(), AllocError>
-    requires { place_in (written names.old.keys) name.now ≡ None }
-    ensures { OnOk result (written names.new.keys ≡ written names.old.keys ++ name.now ∷ []) }
 {
     names.insert(Vec::from_slice(alloc, name)?)?;
     Ok(())

@@ -2,10 +2,10 @@
 
 ghost use Rattle.std.specs.Prelude.{◌≡◌, ◌≤◌, IfOk, OnOk, if◌then◌else◌};
 ghost use Rattle.wit_import.specs.declared.blocks.TheConstants.{MOST_TYPES};
-ghost use Rattle.wit_import.specs.Blocks.{are_known, has_name, has_room, have_room, is_written};
+ghost use Rattle.wit_import.specs.Blocks.{are_known, has_room, have_room, is_written};
 ghost use Rattle.wit_import.specs.Blocks.{missing, pair_text, with_pairs};
 ghost use Rattle.wit_import.specs.Held.{is_of};
-ghost use Rattle.wit_import.specs.Names.{written};
+ghost use Rattle.wit_import.specs.Names.{has_name, written};
 
 use crate::blocks::MOST_TYPES;
 use crate::events::Acquisition;

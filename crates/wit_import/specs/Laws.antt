@@ -1,0 +1,55 @@
+-- The laws of what is written: no pair of types is lost.
+use Rattle.std.specs.Prelude.{ℕ, ◌≡◌, ◌⊎◌, true, false, List, [], ◌∷◌, ◌++◌}
+use Rattle.wit_import.specs.declared.events.Acquisition.{Acquisition}
+use Rattle.wit_import.specs.declared.events.Event.{Event}
+use Rattle.wit_import.specs.declared.held.Holding.{Holding}
+use Rattle.wit_import.specs.Blocks.{has_room, lines_with, pair_text}
+use Rattle.wit_import.specs.Held.{asks_again, is_of}
+use Rattle.wit_import.specs.Names.{has_name}
+use Rattle.wit_import.specs.Outputs.{Seen, after_asking, nothing_seen, seen_after, text_of_event}
+
+-- ---- a run of events
+
+abbrev pub seen_behind : Seen → List Event → Seen
+seen_behind s [] = s
+seen_behind s (event ∷ events) = seen_behind (seen_after s event) events
+
+abbrev pub text_behind : Seen → List Event → List ℕ
+text_behind s [] = []
+text_behind s (event ∷ events) = text_of_event s event ++ text_behind (seen_after s event) events
+
+-- ---- what a text tells
+
+abbrev pub IsAmong : Holding → List Holding → Type 0
+IsAmong h [] = ⊥
+IsAmong h (first ∷ held) = (h ≡ first) ⊎ IsAmong h held
+
+-- the text has the lines of a request by a thread that holds one of these, of which the types are
+-- this pair
+pub record TellsPair (text pair : List ℕ) : Type 0 where
+  pub before : List ℕ
+  pub after : List ℕ
+  pub types : List (List ℕ)
+  pub held : List Holding
+  pub asked : Acquisition
+  pub holding : Holding
+  pub parted : text ≡ before ++ (lines_with types held asked ++ after)
+  pub among : IsAmong holding held
+  pub own : is_of asked.thread holding ≡ true
+  pub names : pair ≡ pair_text holding.acquisition.name asked.name
+
+-- ---- laws
+
+-- each pair that counts as written was written
+abbrev pub PairsAreTold : Type 0
+PairsAreTold = (events : List Event) (pair : List ℕ)
+    → has_name (seen_behind nothing_seen events).told.pairs pair ≡ true
+    → TellsPair (text_behind nothing_seen events) pair
+
+-- after a request each of its pairs counts as written: that of each lock that its thread holds. So it
+-- is but for a reader that asks for what it reads, and where a trace has no room for its types
+abbrev pub RequestsAreWritten : Type 0
+RequestsAreWritten = (s : Seen) (a : Acquisition) (h : Holding)
+    → asks_again s.held a ≡ false → has_room s.told.types s.held a ≡ true
+    → IsAmong h s.held → is_of a.thread h ≡ true
+    → has_name (after_asking s a).told.pairs (pair_text h.acquisition.name a.name) ≡ true
