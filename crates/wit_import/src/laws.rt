@@ -1,6 +1,6 @@
-//! A law of what is written: a function that is a theorem, and does nothing.
+//! Laws of what is written. Each function is a theorem, and does nothing.
 
-ghost use Rattle.wit_import.specs.Laws.{PairsAreTold, RequestsAreWritten};
+ghost use Rattle.wit_import.specs.Laws.{LinesAreSpelled, PairsAreTold, RequestsAreWritten};
 
 /// No pair of types is lost. After a request each of its pairs counts as written, where a trace has
 /// room for its types. Each pair that counts so was written: the text has a request for the one type
@@ -8,4 +8,9 @@ ghost use Rattle.wit_import.specs.Laws.{PairsAreTold, RequestsAreWritten};
 pub fn law_no_pair_is_lost()
     ensures told { PairsAreTold }
     ensures written { RequestsAreWritten }
+{}
+
+/// The lines that are written are lines of a trace, as its grammar spells them.
+pub fn law_lines_are_spelled()
+    ensures { LinesAreSpelled }
 {}
