@@ -1,6 +1,6 @@
 -- What threads hold: acquisitions, oldest first, and which of them were tries.
 use Rattle.std.specs.Prelude.{ℕ, ◌+◌, Bool, true, false, ◌&&◌, List, [], ◌∷◌, ◌++◌, Option, Some, None}
-use Rattle.std.specs.Prelude.{remove, if◌then◌else◌}
+use Rattle.std.specs.Prelude.{length, nat_lt, remove, if◌then◌else◌}
 use Rattle.std.specs.List.{list_any}
 use Rattle.std.specs.Str.{bytes_eq}
 use Rattle.wit_import.specs.declared.events.Acquisition.{Acquisition}
@@ -8,6 +8,7 @@ use Rattle.wit_import.specs.declared.events.Release.{Release}
 use Rattle.wit_import.specs.declared.events.Sharing.{Sharing}
 use Rattle.wit_import.specs.declared.events.Sharing.TheVariants.{Exclusive, Shared, Recursive}
 use Rattle.wit_import.specs.declared.held.Holding.{Holding}
+use Rattle.wit_import.specs.declared.held.TheConstants.{MOST_HELD}
 
 -- whether it is this thread's
 abbrev pub is_of : List ℕ → Holding → Bool
@@ -28,6 +29,13 @@ is_recursive Shared = false
 
 abbrev pub asks_again : List Holding → Acquisition → Bool
 asks_again held a = is_recursive a.sharing && list_any (is_own a.thread a.lock) held
+
+-- ---- an acquisition
+
+-- so many are kept: for a further one the oldest is let go
+abbrev pub with_newest : List Holding → Holding → List Holding
+with_newest held h =
+    (if nat_lt (length held) MOST_HELD then held else remove held 0) ++ h ∷ []
 
 -- ---- a release
 

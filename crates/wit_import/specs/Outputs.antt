@@ -12,7 +12,7 @@ use Rattle.wit_import.specs.declared.events.Event.{Event}
 use Rattle.wit_import.specs.declared.events.Event.TheVariants.{Asks, Gets, Tries, Releases, Loses}
 use Rattle.wit_import.specs.declared.held.Holding.{Holding}
 use Rattle.wit_import.specs.Blocks.{Told, request_text, told_after}
-use Rattle.wit_import.specs.Held.{released}
+use Rattle.wit_import.specs.Held.{released, with_newest}
 use Rattle.wit_import.specs.Reading.{plain_line}
 
 -- ---- what was read so far: whether the trace was begun, what is held, and what was written
@@ -45,7 +45,7 @@ abbrev pub after_asking : Seen → Acquisition → Seen
 after_asking s a = record s { told = told_after s.told s.held a }
 
 abbrev pub with_holding : Seen → Holding → Seen
-with_holding s h = record s { held = s.held ++ h ∷ [] }
+with_holding s h = record s { held = with_newest s.held h }
 
 abbrev pub seen_after : Seen → Event → Seen
 seen_after s (Asks a) = after_asking s a

@@ -1,13 +1,18 @@
 //! What threads hold.
 
 ghost use Rattle.std.specs.Prelude.{◌≡◌, ◌+◌, ◌<◌, ◌^◌};
-ghost use Rattle.std.specs.Prelude.{IfSome, length};
+ghost use Rattle.std.specs.Prelude.{IfSome, length, OnOk};
 ghost use Rattle.std.specs.List.{list_any};
 ghost use Rattle.wit_import.specs.Held.{asks_again, is_lock, is_of, is_own, is_recursive};
-ghost use Rattle.wit_import.specs.Held.{last_from, place_released, released};
+ghost use Rattle.wit_import.specs.Held.{last_from, place_released, released, with_newest};
 
 use crate::events::{Acquisition, Release, Sharing};
 use crate::words::Word;
+use std::alloc::AllocError;
+
+/// So many acquisitions are kept at most. That many locks are held at no time: but where a source
+/// misses releases, what is left of them would grow for ever, and be walked over.
+pub const MOST_HELD: usize = 4096;
 
 /// An acquisition that wasn't released yet.
 #[derive(Debug, Drop)]
@@ -36,6 +41,20 @@ impl Holding {
     {
         self.is_of(thread) && self.is_lock(lock)
     }
+}
+
+/// Adds an acquisition. Where so many are kept already, the oldest is let go.
+///
+/// # Errors
+/// Want of memory alone.
+pub fn hold(held: &mut Vec<Holding>, holding: Holding) -> Result<(), AllocError>
+    ensures { OnOk result (held.new.items ≡ with_newest held.old.items holding) }
+{
+    if held.len() >= MOST_HELD {
+        held.remove(0);
+    }
+    held.push(holding)?;
+    Ok(())
 }
 
 /// Whether a reader asks for what it reads already, as it may.

@@ -11,7 +11,7 @@ ghost use Rattle.wit_import.specs.Outputs.{seen_after, some_output, text_of_even
 
 use crate::blocks::{number_types, put_request};
 use crate::events::{Acquisition, Event};
-use crate::held::{Holding, release};
+use crate::held::{Holding, hold, release};
 use crate::names::Names;
 use crate::pairs::{add_pairs, is_written};
 use crate::reading::plain_line;
@@ -107,11 +107,11 @@ impl Importing {
             Event::Gets(acquisition) => {
                 self.ask(alloc, &acquisition, text)?;
                 let tried = false;
-                self.held.push(Holding { acquisition, tried })?;
+                hold(&mut self.held, Holding { acquisition, tried })?;
             }
             Event::Tries(acquisition) => {
                 let tried = true;
-                self.held.push(Holding { acquisition, tried })?;
+                hold(&mut self.held, Holding { acquisition, tried })?;
             }
             Event::Releases(released) => release(&mut self.held, &released),
             Event::Loses => self.held.clear(),
