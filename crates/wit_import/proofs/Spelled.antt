@@ -1,12 +1,9 @@
 -- Each line that is written is the spelling of a line of a trace.
-use Rattle.std.proofs.Common.{◌≡◌, ℕ, List, [], ◌∷◌, ◌++◌, refl, sym, ap, ◌∙◌, append_assoc, append-nil}
+use Rattle.std.proofs.Common.{◌≡◌, ℕ, List, [], ◌∷◌, ◌++◌, sym, ap, ◌∙◌, append_assoc, append-nil}
 use Rattle.std.proofs.Common.{arith, codes}
 use Rattle.std.specs.Fmt.{decimal}
 use Rattle.std.proofs.lemmas.Fmt.{decimal_digit}
 use Rattle.wit_model.specs.Trace.Spelling.{class_text}
-use Rattle.wit_import.specs.declared.events.Acquisition.{Acquisition}
-use Rattle.wit_import.specs.Blocks.{check_line, give_up_line, got_line, init_line, place_text}
-use Rattle.wit_import.specs.Blocks.{try_line, unlock_line}
 use Rattle.wit_import.specs.Laws.{LinesAreSpelled}
 
 one : decimal 1 ≡ 49 ∷ []

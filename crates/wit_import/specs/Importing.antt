@@ -7,7 +7,7 @@ use Rattle.wit_stream.specs.declared.summary.Summary.{Summary}
 use Rattle.wit_import.specs.declared.importing.Importing.{Importing}
 use Rattle.wit_import.specs.declared.events.Event.{Event}
 use Rattle.wit_import.specs.Names.{written}
-use Rattle.wit_import.specs.Outputs.{Seen, Output, output_from, IsOutput, refused, seen_by, text_by}
+use Rattle.wit_import.specs.Outputs.{Seen, output_from, IsOutput, refused, seen_by, text_by}
 
 abbrev pub seen : Importing → Seen
 seen m = record {

@@ -1,12 +1,12 @@
 -- Reading a line of a script: its keyword, and the fields after it.
-use Rattle.std.specs.Prelude.{ℕ, Bool, List, [], ◌∷◌, Option, Some, None, codes, take, drop}
+use Rattle.std.specs.Prelude.{ℕ, List, [], ◌∷◌, Option, Some, None, codes, take, drop}
 use Rattle.std.specs.Prelude.{length, nat_le}
 use Rattle.std.specs.Prelude.{if◌then◌else◌}
 use Rattle.wit_model.specs.declared.locks.Class.{Class}
 use Rattle.wit_model.specs.declared.locks.Class.TheVariants.{SleepMutex, SpinMutex, Rw, Sx}
 use Rattle.wit_model.specs.Rules.Names.{is_name, is_file_name, longest_name}
 use Rattle.wit_model.specs.Trace.Reading.{◌>>=◌, until, named, class_named, accepted, site_of}
-use Rattle.wit_model.specs.Trace.Reading.{Reader, leading_word, field_at, both, whole}
+use Rattle.wit_model.specs.Trace.Reading.{leading_word, field_at, both, whole}
 use Rattle.wit_import.specs.declared.events.Sharing.{Sharing}
 use Rattle.wit_import.specs.declared.events.Sharing.TheVariants.{Exclusive, Shared, Recursive}
 use Rattle.wit_import.specs.declared.events.Acquisition.{Acquisition}
