@@ -15,8 +15,8 @@ use Rattle.clap.proofs.OnLiterals.{clap_on_literals}
 use Rattle.wit_model.specs.declared.lines.View.TheVariants.{Reports, Graph, Locks, Circle}
 use Rattle.wit_command.specs.declared.command.Command.{Command}
 use Rattle.wit_command.specs.declared.command.Command.TheVariants.{Show, Migrate, Grade, Demo}
-use Rattle.wit_command.specs.CommandLine.{asked, bytes_of, command_line, command_named, only_word}
-use Rattle.wit_command.specs.CommandLine.{option_named}
+use Rattle.wit_command.specs.CommandLine.{asked_alone, bytes_of, command_line, command_named}
+use Rattle.wit_command.specs.CommandLine.{only_word, option_named}
 
 -- the rules that clap reads the words by
 abbrev pub rules : List Rule
@@ -181,7 +181,7 @@ unnamed_bytes word h =
 
 -- words of which the first asks for nothing ask for nothing
 pub unasked : (words : List (Vec ℕ)) (word : Vec ℕ) → word ≡ get_or words 0 word
-    → command_named word.items ≡ None → asked (bytes_of words) ≡ None
+    → command_named word.items ≡ None → asked_alone (bytes_of words) ≡ None
 unasked [] word at unnamed = refl
 unasked (first ∷ []) word at unnamed = ap (λ (w : Vec ℕ). command_named w.items) (sym at) ∙ unnamed
 unasked (first ∷ second ∷ more) word at unnamed = refl

@@ -7,6 +7,8 @@ use Rattle.clap.specs.declared.builder.action.ArgAction.TheVariants.{Set}
 use Rattle.wit_model.specs.declared.lines.View.TheVariants.{Reports, Graph, Locks, Circle}
 use Rattle.wit_command.specs.declared.command.Command.{Command}
 use Rattle.wit_command.specs.declared.command.Command.TheVariants.{Show, Migrate, Grade, Demo}
+use Rattle.wit_command.specs.declared.command.Command.TheVariants.{Import}
+use Rattle.wit_command.specs.declared.command.Source.TheVariants.{Plain}
 
 -- the words' bytes
 abbrev pub bytes_of : List (Vec ℕ) → List (List ℕ)
@@ -24,10 +26,23 @@ command_named word =
     else if bytes_eq word (codes "demo") then Some Demo
     else None
 
--- what the words behind the program's name ask for: they are one word, which names it
+-- what two words ask for: an import, of a source
+abbrev pub import_named : List ℕ → List ℕ → Option Command
+import_named word source =
+    if bytes_eq word (codes "import") then
+    (if bytes_eq source (codes "plain") then Some (Import Plain) else None)
+    else None
+
+-- what one word asks for that stands alone
+abbrev pub asked_alone : List (List ℕ) → Option Command
+asked_alone (word ∷ []) = command_named word
+asked_alone _ = None
+
+-- what the words behind the program's name ask for: one word that names it, or an import and its
+-- source
 abbrev pub asked : List (List ℕ) → Option Command
-asked (word ∷ []) = command_named word
-asked _ = None
+asked (word ∷ source ∷ []) = import_named word source
+asked words = asked_alone words
 
 -- the word behind the program's name, where it is the only one
 abbrev pub only_word : List Text → Option Text

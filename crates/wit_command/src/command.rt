@@ -2,6 +2,13 @@
 
 use wit_model::View;
 
+/// Who writes the lines that are imported.
+#[derive(Clone, Copy, Debug, PartialEq, Eq)]
+pub enum Source {
+    /// `plain`: a script, a line for each event.
+    Plain,
+}
+
 /// What a command line asks for.
 #[derive(Clone, Copy, Debug, PartialEq, Eq)]
 pub enum Command {
@@ -11,6 +18,8 @@ pub enum Command {
     Migrate,
     /// The grades of the facts on standard input.
     Grade,
+    /// The lines on standard input, which such a source wrote, as a trace.
+    Import(Source),
     /// The demonstration.
     Demo,
 }

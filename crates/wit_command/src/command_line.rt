@@ -1,12 +1,12 @@
-//! The command line: exactly one word, which says what is asked for.
+//! The command line: exactly one word, which says what is asked for, or two that ask for an import.
 
 ghost use Rattle.std.specs.Prelude.{◌≡◌, [], ◌∷◌, IfOk, IfErr, IfSome, IfNone, None, true, codes};
 ghost use Rattle.std.specs.Prelude.{map, option_map};
 ghost use Rattle.clap.specs.Words.{first_of, kind_of, matches_of, takes};
-ghost use Rattle.wit_command.specs.CommandLine.{asked, bytes_of, command_line, command_named};
-ghost use Rattle.wit_command.specs.CommandLine.{only_word, option_named};
+ghost use Rattle.wit_command.specs.CommandLine.{asked, asked_alone, bytes_of, command_line};
+ghost use Rattle.wit_command.specs.CommandLine.{command_named, import_named, only_word, option_named};
 
-use crate::command::Command;
+use crate::command::{Command, Source};
 use clap::error::ErrorKind;
 use clap::{Arg, ArgAction, Error};
 use std::alloc::{AllocError, Global};
@@ -15,12 +15,35 @@ use std::str;
 use wit_model::View;
 
 /// What these words ask for, which stand behind the program's name: `None` where they aren't
-/// exactly one word that says it. No option does, nor does a word for help.
+/// exactly one word that says it, or `import` and a source. No option does, nor does a word for
+/// help.
 ///
 /// # Errors
 /// Want of memory.
 pub fn asked_command(alloc: Global, words: &[Vec<u8>]) -> Result<Option<Command>, AllocError>
     ensures { IfOk result (λ command. command ≡ asked (bytes_of words.now)) }
+{
+    match words {
+        [word, source] => Ok(named_import(word.as_slice(), source.as_slice())),
+        _ => asked_alone(alloc, words),
+    }
+}
+
+fn named_import(word: &[u8], source: &[u8]) -> Option<Command>
+    ensures { result ≡ import_named word.now source.now }
+{
+    if word != b"import".as_slice() {
+        return None;
+    }
+    match source {
+        b"plain" => Some(Command::Import(Source::Plain)),
+        _ => None,
+    }
+}
+
+// What one word asks for that stands alone.
+fn asked_alone(alloc: Global, words: &[Vec<u8>]) -> Result<Option<Command>, AllocError>
+    ensures { IfOk result (λ command. command ≡ asked_alone (bytes_of words.now)) }
 {
     match only_text(words) {
         Some(word) => command_of(alloc, &["witness", word]),
@@ -31,7 +54,7 @@ pub fn asked_command(alloc: Global, words: &[Vec<u8>]) -> Result<Option<Command>
 // The only word, where it is a text: all that asks for something is.
 fn only_text(words: &[Vec<u8>]) -> Option<&str>
     ensures text { IfSome result (λ word. bytes_of words.now ≡ word.now ∷ []) }
-    ensures none { IfNone result (asked (bytes_of words.now) ≡ None) }
+    ensures none { IfNone result (asked_alone (bytes_of words.now) ≡ None) }
 {
     match words {
         [word] => str::from_utf8(word.as_slice()).ok(),

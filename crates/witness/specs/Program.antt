@@ -9,6 +9,7 @@ use Rattle.wit_demo.specs.Demonstration.{IsEnded, IsTold}
 use Rattle.wit_migrate.specs.Again.{WritesTheSame}
 use Rattle.wit_migrate.specs.Migrates.{Migrates, MigratesFrom}
 use Rattle.wit_grades.specs.Outputs.{Grades, GradesFrom, nothing_told}
+use Rattle.wit_import.specs.Outputs.{Imports, ImportsFrom, nothing_seen}
 use Rattle.wit_trace.specs.Replays.{ShowsTrace, ShowsFrom}
 use Rattle.wit_trace.specs.Status.{exit_status}
 use Rattle.wit_stream.specs.Stream.{WritesOutput, WritesFront, WritesLines}
@@ -89,6 +90,30 @@ IsGradingCut read written_old written_new =
 pub record TellsGrades (read written_old written_new : Option (List ℕ)) : Type 0 where
   pub left : Option (List ℕ)
   pub told : WritesLines GradesFrom nothing_told read left written_old written_new
+
+-- the trace that the input makes was written, and this is its status, as where nothing is reported
+pub record IsImportedWhole (read written_old written_new : Option (List ℕ))
+    (ended : ℕ) : Type 0 where
+  pub summary : Summary
+  pub written : WritesOutput Imports read written_old written_new summary
+  pub status : ended ≡ exit_status Graph (Ok summary)
+
+-- and that is what is left to do
+abbrev pub IsImportedAndExits : Option (List ℕ) → Option (List ℕ) → Option (List ℕ) → Ended → Type 0
+IsImportedAndExits read written_old written_new (Exits status) =
+    IsImportedWhole read written_old written_new status
+IsImportedAndExits read written_old written_new ShowsThreads = ⊥
+
+-- a beginning was written of the trace that the input makes, which may be nothing
+abbrev pub IsImportCut : Option (List ℕ) → Option (List ℕ) → Option (List ℕ) → Type 0
+IsImportCut read written_old written_new =
+    Keeps written_old written_new ⊎ WritesFront Imports read written_old written_new
+
+-- what every whole line that was taken from the input makes was written, no less, whatever is left
+-- of it
+pub record TellsImported (read written_old written_new : Option (List ℕ)) : Type 0 where
+  pub left : Option (List ℕ)
+  pub told : WritesLines ImportsFrom nothing_seen read left written_old written_new
 
 -- the demonstration was told, or a call of it was refused, and this is its status, as that of a
 -- replay which reports what was reported

@@ -12,6 +12,7 @@ pub const BAD_USAGE: u8 = 2;
 /// How the program is used.
 pub const USAGE: &str = "usage: witness replay|graph|locks|circle|migrate < TRACE
        witness grade < FACTS
+       witness import plain < LINES
        witness demo
 
 Reads a trace of lock calls from standard input, and writes
@@ -22,10 +23,11 @@ Reads a trace of lock calls from standard input, and writes
   migrate the trace in the second version of the format, in which it tells each step of the locks themselves
 With grade it reads facts in place of a trace: which lock a thread asked for while it held another. At each line that asks
 for it, it writes whether threads can wait for one another so, and if not, what keeps them from it.
+With import plain it reads lines in which a script tells how threads acquire and release locks, and writes a trace.
 With demo it reads nothing: threads take two locks in one order, and then one takes them in the other, which is reported.
 Status: 0 nothing was reported, 1 something was reported (replay, demo) or there is a circle (circle), 2 bad usage,
 3 a bad line (the last line of the output says which and why), 4 no memory, or reading or writing failed.
-The format of a trace: docs/man/witness-trace.5; of facts and grades: docs/man/witness-grade.5
+The format of a trace: docs/man/witness-trace.5; of facts and grades: docs/man/witness-grade.5; of lines: docs/man/witness-import.5
 ";
 
 /// Says how the program is used, and gives the status of bad usage. The status alone tells it where

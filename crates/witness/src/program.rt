@@ -3,6 +3,7 @@
 ghost use Rattle.std.specs.Prelude.{◌≡◌, ◌≢◌, ◌⊎◌, Ok, Err, IfOk, OnErr, None, Some};
 ghost use Rattle.std.specs.Io.KnownBytes.{Keeps};
 ghost use Rattle.wit_grades.specs.Outputs.{Grades};
+ghost use Rattle.wit_import.specs.Outputs.{Imports};
 ghost use Rattle.wit_migrate.specs.Again.{WritesTheSame};
 ghost use Rattle.wit_migrate.specs.Migrates.{Migrates};
 ghost use Rattle.wit_trace.specs.Replays.{ShowsTrace};
@@ -10,18 +11,21 @@ ghost use Rattle.wit_stream.specs.Stream.{WritesOutput};
 ghost use Rattle.wit_command.specs.CommandLine.{asked, bytes_of};
 ghost use Rattle.wit_stream.specs.declared.summary.ReplayError.TheVariants as ReplayError;
 ghost use Rattle.wit_stream.specs.declared.summary.ReplayError.TheVariants.{Memory};
-ghost use Rattle.wit_command.specs.declared.command.Command.TheVariants.{Demo, Grade, Migrate};
-ghost use Rattle.wit_command.specs.declared.command.Command.TheVariants.{Show};
+ghost use Rattle.wit_command.specs.declared.command.Command.TheVariants.{Demo, Grade, Import};
+ghost use Rattle.wit_command.specs.declared.command.Command.TheVariants.{Migrate, Show};
+ghost use Rattle.wit_command.specs.declared.command.Source.TheVariants.{Plain};
 ghost use Rattle.witness.specs.declared.program.Ended.TheVariants.{Exits, ShowsThreads};
 ghost use Rattle.witness.specs.Program.{IsCutShort, IsGradedAndExits, IsGradingCut};
-ghost use Rattle.witness.specs.Program.{IsMigratedAndExits, IsMigrationCut, IsShownAndExits};
-ghost use Rattle.witness.specs.Program.{TellsGrades, TellsLines, TellsMovedLines};
+ghost use Rattle.witness.specs.Program.{IsImportedAndExits, IsImportCut, IsMigratedAndExits};
+ghost use Rattle.witness.specs.Program.{IsMigrationCut, IsShownAndExits, TellsGrades};
+ghost use Rattle.witness.specs.Program.{TellsImported, TellsLines, TellsMovedLines};
 
 use crate::complaints::refuse;
 use std::alloc::Global;
 use std::io::{BufReader, Read, Write};
-use wit_command::{Command, asked_command};
+use wit_command::{Command, Source, asked_command};
 use wit_grades::grade_facts;
+use wit_import::import;
 use wit_migrate::migrate;
 use wit_model::View;
 use wit_stream::{ReplayError, Summary};
@@ -41,15 +45,15 @@ pub enum Ended {
 }
 
 /// Runs the program on the words behind its name, up to its exit status: where they ask for a view
-/// of the input, its migration or its grades, that of the replay, the migration or the grading;
-/// where they ask for nothing, 2. The demonstration is left to the caller.
+/// of the input, its migration, its grades or its import, that of the replay, the migration, the
+/// grading or the import; where they ask for nothing, 2. The demonstration is left to the caller.
 ///
 /// Only the input is read through a buffer: what is written is in the output when this returns.
 /// What goes to `complaints` is how the program is used, at status 2, and nothing else.
 ///
 /// # Errors
-/// Those of `replay`, `migrate` and `grade_facts`; and `Memory` where memory runs out before the first line is
-/// read. What was written is then a beginning of the output; where the reader failed it is the text
+/// Those of `replay`, `migrate`, `grade_facts` and `import`; and `Memory` where memory runs out before
+/// the first line is read. What was written is then a beginning of the output; where the reader failed it is the text
 /// of every whole line that was taken.
 pub fn run<R: Read + Drop, W: Write, E: Write>(
     alloc: Global,
@@ -93,6 +97,15 @@ pub fn run<R: Read + Drop, W: Write, E: Write>(
     ensures grades_told { asked (bytes_of words.now) ≡ Some Grade
         → result ≡ Err ReplayError.Read
         → TellsGrades (R.remaining input) (W.contents output.old) (W.contents output.new) }
+    ensures imported { asked (bytes_of words.now) ≡ Some (Import Plain)
+        → IfOk result (IsImportedAndExits (R.remaining input) (W.contents output.old)
+        (W.contents output.new)) }
+    ensures import_cut { asked (bytes_of words.now) ≡ Some (Import Plain)
+        → OnErr result (IsImportCut (R.remaining input) (W.contents output.old)
+        (W.contents output.new)) }
+    ensures import_told { asked (bytes_of words.now) ≡ Some (Import Plain)
+        → result ≡ Err ReplayError.Read
+        → TellsImported (R.remaining input) (W.contents output.old) (W.contents output.new) }
     ensures quiet { result ≢ Ok (Exits 2)
         → Keeps (E.contents complaints.old) (E.contents complaints.new) }
 {
@@ -100,6 +113,7 @@ pub fn run<R: Read + Drop, W: Write, E: Write>(
         Ok(Some(Command::Show(view))) => show(alloc, view, input, output),
         Ok(Some(Command::Migrate)) => move_on(alloc, input, output),
         Ok(Some(Command::Grade)) => grade(alloc, input, output),
+        Ok(Some(Command::Import(Source::Plain))) => import_lines(alloc, input, output),
         Ok(Some(Command::Demo)) => Ok(Ended::ShowsThreads),
         Ok(None) => Ok(Ended::Exits(refuse(complaints))),
         Err(error) => Err(ReplayError::from(error)),
@@ -224,6 +238,45 @@ fn grade_through_buffer<R: Read + Drop, W: Write>(
 {
     match BufReader::with_capacity(alloc, READ_AHEAD, input) {
         Ok(mut reader) => grade_facts(alloc, &mut reader, output),
+        Err(_) => Err(ReplayError::Memory),
+    }
+}
+
+// Imports the lines of the input, and says with which status to exit.
+fn import_lines<R: Read + Drop, W: Write>(
+    alloc: Global,
+    input: R,
+    output: &mut W,
+) -> Result<Ended, ReplayError>
+    ensures imported { IfOk result
+        (IsImportedAndExits (R.remaining input) (W.contents output.old) (W.contents output.new)) }
+    ensures cut_short { OnErr result
+        (IsImportCut (R.remaining input) (W.contents output.old) (W.contents output.new)) }
+    ensures told { result ≡ Err ReplayError.Read → TellsImported
+        (R.remaining input) (W.contents output.old) (W.contents output.new) }
+{
+    let imported = import_through_buffer(alloc, input, output);
+    // An import reports nothing, as a graph.
+    let status = status_of(View::Graph, &imported);
+    let _summary = imported?;
+    Ok(Ended::Exits(status))
+}
+
+// Imports the lines of the input, which is read through a buffer.
+fn import_through_buffer<R: Read + Drop, W: Write>(
+    alloc: Global,
+    input: R,
+    output: &mut W,
+) -> Result<Summary, ReplayError>
+    ensures ok { IfOk result (WritesOutput Imports
+        (R.remaining input) (W.contents output.old) (W.contents output.new)) }
+    ensures err { OnErr result
+        (IsImportCut (R.remaining input) (W.contents output.old) (W.contents output.new)) }
+    ensures told { result ≡ Err ReplayError.Read → TellsImported
+        (R.remaining input) (W.contents output.old) (W.contents output.new) }
+{
+    match BufReader::with_capacity(alloc, READ_AHEAD, input) {
+        Ok(mut reader) => import(alloc, &mut reader, output),
         Err(_) => Err(ReplayError::Memory),
     }
 }

@@ -1,0 +1,4 @@
+pub mod Keys
+pub mod Runs
+pub mod Spelled
+pub mod Told

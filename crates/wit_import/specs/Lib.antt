@@ -1,0 +1,7 @@
+pub mod Blocks
+pub mod Held
+pub mod Importing
+pub mod Laws
+pub mod Names
+pub mod Outputs
+pub mod Reading
