@@ -66,13 +66,13 @@ static int c11(int answer)
 
 /* The calls that ask for a lock of that way and may block, those that try, and those that release. */
 #define LOCK_CALL(name, type, way, answered)                                                                           \
-    EXPORT int name(type *lock) { return answered(acquire(&(way), (void *)lock, CALLER)); }
+    EXPORT int name(type *lock) { return answered(acquire(&(way), (void *)lock)); }
 #define TRY_CALL(name, type, way, answered)                                                                            \
     EXPORT int name(type *lock) { return answered(acquire_at_once(&(way), (void *)lock, CALLER)); }
 #define UNLOCK_CALL(name, type, real_call, answered)                                                                   \
     EXPORT int name(type *lock)                                                                                        \
     {                                                                                                                  \
-        release((const void *)lock, CALLER);                                                                           \
+        release((const void *)lock);                                                                                   \
         return answered(real_call);                                                                                    \
     }
 

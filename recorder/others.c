@@ -74,12 +74,12 @@ WAY(omp, openmp, omp_set_lock, omp_test_lock);
         REAL(by_address, library, name)(lock);                                                                         \
         lock_gone(lock);                                                                                               \
     }
-#define ASKS_FOR(way, name) static void own_##name(void *lock) { acquire(&way, lock, CALLER); }
+#define ASKS_FOR(way, name) static void own_##name(void *lock) { acquire(&way, lock); }
 #define TRIES_FOR(way, name) static int own_##name(void *lock) { return acquire_at_once(&way, lock, CALLER) == 0; }
 #define RELEASES(library, name)                                                                                        \
     static void own_##name(void *lock)                                                                                 \
     {                                                                                                                  \
-        release(lock, CALLER);                                                                                         \
+        release(lock);                                                                                                 \
         REAL(by_address, library, name)(lock);                                                                         \
     }
 
@@ -152,7 +152,7 @@ static void own_omp_unset_nest_lock(void *lock)
 {
     by_address *unset = REAL(by_address, openmp, omp_unset_nest_lock);
     if (REAL(answered_by_address, openmp, omp_test_nest_lock)(lock) == 2)
-        release(lock, CALLER);
+        release(lock);
     unset(lock);
     unset(lock);
 }
@@ -177,7 +177,7 @@ static void own_GOMP_critical_start(void)
 
 static void own_GOMP_critical_end(void)
 {
-    release(&omp_critical, CALLER);
+    release(&omp_critical);
     REAL(void(void), openmp, GOMP_critical_end)();
 }
 

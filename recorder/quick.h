@@ -115,30 +115,33 @@ struct quick {
     bool nested;       /* the thread holds locks */
 };
 
-/* False where the call takes the long way. Else the thread is inside the recorder until the request ends. */
+/* False where the call takes the long way. Else the thread is inside the recorder until the request ends, and has room. */
 QUICK bool quick_begins(struct quick *quick, uintptr_t stack)
 {
-    quick->thread = &self;
-    return LIKELY(!takes_long_way()) && LIKELY(goes_inside(quick->thread, stack));
+    struct thread *thread = quick->thread = &self;
+    if (UNLIKELY(takes_long_way()) || UNLIKELY(!goes_inside(thread, stack)))
+        return false;
+    if (LIKELY(thread->count != thread->room))
+        return true;
+    goes_outside(thread);
+    return false;
 }
 
 /*
  * Whether a request from that place tells nothing new. Then its lock is put after the chain. What is remembered wasn't for a
- * lock that the thread holds: that would stand in the chain.
+ * lock that the thread holds: that would stand in the chain. LOOKS: what isn't remembered is looked for, too.
  */
-QUICK bool quick_is_known(struct quick *quick, const void *address, enum mode mode, uint32_t place)
+QUICK bool quick_is_known(struct quick *quick, const void *address, enum mode mode, uint32_t place, bool looks)
 {
     struct thread *thread = quick->thread;
     struct lock *lock = lock_at(address);
     if (UNLIKELY(!lock))
         return false;
-    uint32_t count = thread->count;
-    if (UNLIKELY(count == thread->room))
-        return false;
-    struct held *held = quick->held = &thread->held[count];
-    quick->nested = count != 0;
+    struct held *held = quick->held = &thread->held[thread->count];
+    quick->nested = thread->count != 0;
     uint64_t locks = locks_with(quick->nested ? held[-1].locks : 0, lock, mode);
-    if (quick->nested && UNLIKELY(!is_remembered(thread, locks)) && !request_is_known(thread, lock, mode, locks))
+    if (quick->nested && UNLIKELY(!is_remembered(thread, locks))
+        && !(looks && request_is_known(thread, lock, mode, locks)))
         return false;
     held_fill(held, lock, place, locks, mode);
     return true;
@@ -161,16 +164,22 @@ QUICK bool quick_ends(const struct quick *quick, bool got, uintptr_t stack)
     return true;
 }
 
+/* It was acquired once, and isn't written. */
+static inline bool is_held_once(const struct held *held, const void *address)
+{
+    return atomic_load_explicit(&held->lock->address, memory_order_relaxed) == (uintptr_t)address && held->count == 1
+        && !held->written;
+}
+
 /* Releases what was acquired last, once, and isn't written. False where that isn't so. */
 QUICK bool quick_released(const void *address, uintptr_t stack)
 {
     struct thread *thread = &self;
     bool released = false;
-    if (UNLIKELY(thread->count == 0) || !goes_inside(thread, stack))
+    if (UNLIKELY(!goes_inside(thread, stack)))
         return false;
-    const struct held *held = &thread->held[thread->count - 1];
-    if (LIKELY(atomic_load_explicit(&held->lock->address, memory_order_relaxed) == (uintptr_t)address
-            && held->count == 1 && !held->written && (thread->room == HELD_FEW || thread->count > 1))) {
+    if (LIKELY(thread->count != 0 && is_held_once(&thread->held[thread->count - 1], address)
+            && (thread->room == HELD_FEW || thread->count > 1))) {
         thread->count--;
         released = true;
     }

@@ -549,7 +549,7 @@ static inline uint32_t place_at_pc(uintptr_t pc)
 {
     for (uint32_t slot = place_slot(pc);; slot = (slot + 1) % PLACES) {
         uintptr_t found = atomic_load_explicit(&places[slot].pc, memory_order_acquire);
-        if (found == pc)
+        if (LIKELY(found == pc))
             return slot + 1;
         if (found == 0)
             return 0;

@@ -115,13 +115,16 @@ QUICK bool quick_call(const struct way *way, void *address, const struct quick *
     return LIKELY(quick_ends(quick, is_got(*answer), stack)) && LIKELY(*answer != EBUSY);
 }
 
-/* The thread is inside already. The call comes from a place that isn't told, or not alone: its callers are looked at. */
+/*
+ * The thread is inside already. The call comes from a place that isn't told, or not alone: its callers are looked at. Or it
+ * isn't remembered. That it is looked for here keeps the quick way free of such calls: so it has few registers to save.
+ */
 static __attribute__((noinline)) int acquire_from_afar(const struct way *way, void *address, uintptr_t pc,
     uintptr_t stack, uintptr_t base)
 {
     struct quick quick = {.thread = &self};
     uint32_t place = place_passed((struct caller){pc, stack, base});
-    if (UNLIKELY(!place || !quick_is_known(&quick, address, way->mode, place))) {
+    if (UNLIKELY(!place || !quick_is_known(&quick, address, way->mode, place, true))) {
         goes_outside(quick.thread);
         return acquire_slowly(way, address, pc, stack, base);
     }
@@ -130,24 +133,19 @@ static __attribute__((noinline)) int acquire_from_afar(const struct way *way, vo
                                                                    : acquire_on(way, address, pc, stack, base, answer);
 }
 
-QUICK int acquire(const struct way *way, void *address, struct caller caller)
+/* Makes the call of that way for the function's own caller, which is read where it is wanted: so it needn't be kept. */
+#define ON_THE_WAY(function, ...) function(way, address, CALLER.pc, CALLER.stack, CALLER.base, ##__VA_ARGS__)
+
+QUICK int acquire(const struct way *way, void *address)
 {
     struct quick quick;
-    if (UNLIKELY(!quick_begins(&quick, caller.stack)))
-        return is_asleep() ? way->lock(address) : acquire_slowly(way, address, caller.pc, caller.stack, caller.base);
-    uint32_t place = place_at_pc(caller.pc);
-    if (UNLIKELY(place && detour_at(place)))
-        return acquire_from_afar(way, address, caller.pc, caller.stack, caller.base);
-    if (UNLIKELY(!place || !quick_is_known(&quick, address, way->mode, place))) {
-        goes_outside(quick.thread);
-        return acquire_slowly(way, address, caller.pc, caller.stack, caller.base);
-    }
+    if (UNLIKELY(!quick_begins(&quick, HERE)))
+        return is_asleep() ? way->lock(address) : ON_THE_WAY(acquire_slowly);
+    uint32_t place = place_at_pc(CALLER.pc);
+    if (UNLIKELY(!place || detour_at(place)) || UNLIKELY(!quick_is_known(&quick, address, way->mode, place, false)))
+        return ON_THE_WAY(acquire_from_afar);
     int answer;
-    if (LIKELY(quick_call(way, address, &quick, HERE, &answer)))
-        return answer;
-    /* The caller is read anew, so that it needn't be kept during the real call. */
-    struct caller again = CALLER;
-    return acquire_on(way, address, again.pc, again.stack, again.base, answer);
+    return LIKELY(quick_call(way, address, &quick, HERE, &answer)) ? answer : ON_THE_WAY(acquire_on, answer);
 }
 
 static __attribute__((noinline)) void release_slowly(const void *address, uintptr_t pc, uintptr_t stack, uintptr_t base)
@@ -155,10 +153,10 @@ static __attribute__((noinline)) void release_slowly(const void *address, uintpt
     release_begins(address, (struct caller){pc, stack, base});
 }
 
-QUICK void release(const void *address, struct caller caller)
+QUICK void release(const void *address)
 {
-    if (UNLIKELY(!quick_released(address, caller.stack)) && !is_asleep())
-        release_slowly(address, caller.pc, caller.stack, caller.base);
+    if (UNLIKELY(!quick_released(address, HERE)) && !is_asleep())
+        release_slowly(address, CALLER.pc, CALLER.stack, CALLER.base);
 }
 
 static inline int acquire_at_once(const struct way *way, void *address, struct caller caller)
