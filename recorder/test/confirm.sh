@@ -124,11 +124,12 @@ END
         sh -c 'read model; ./wrong $model' <model >recorded.out 2>recorded.err
     grep -q "$hangs" recorded.err && [ "$(runs_made)" -ge 1 ]
     tell steered "--before runs before each" $?
-    # By a pipe nothing is read twice: the program waits then, and is ended with what it has begun.
+    # By a pipe nothing is read twice: the program waits then, and is ended with what it has begun. No other test sleeps for that.
+    long=$((100000 + $$))
     echo accounts | RECORD_FRAMES=8 "$record" --on-deadlock kill --confirm --confirm-time 3 -- \
-        sh -c 'read model || sleep 7342; ./wrong $model' >recorded.out 2>recorded.err
+        sh -c "read model || sleep $long; ./wrong \$model" >recorded.out 2>recorded.err
     grep -q '; its standard input is /dev/null$' recorded.err && grep -q 'was never reached; [1-3] of the runs took too long, and w[a-z]* ended$' recorded.err &&
-        ! pgrep -f '^sleep 7342$' >left.out
+        ! pgrep -f "^sleep $long\$" >left.out
     tell steered "--confirm-time ends a run, and what it has begun" $?
 
     # shellcheck disable=SC2016 # the shell that runs it has these
