@@ -1,0 +1,5 @@
+mod Certified
+mod Joined
+mod Owned
+mod Runs
+mod Told

@@ -1,0 +1,3 @@
+pub mod Forecasting
+pub mod Forecasts
+pub mod Owners
