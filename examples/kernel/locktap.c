@@ -1,7 +1,7 @@
 // SPDX-License-Identifier: GPL-2.0
 /*
  * All that lockdep is told of an acquisition, as lines of the trace. The tracepoint lock:lock_acquire prints no subclass, no
- * key and no place. Lines of "la: " and "lr: " are what lines-of-lockdep reads.
+ * key and no place. `witness import ftrace` reads its lines of "la: " and "lr: ".
  */
 #include <linux/lockdep.h>
 #include <linux/module.h>

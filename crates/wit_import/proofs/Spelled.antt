@@ -44,6 +44,9 @@ named class name =
 moded : (n : List ℕ) → (n ++ 32 ∷ 120 ∷ []) ++ 10 ∷ [] ≡ n ++ 32 ∷ 120 ∷ 10 ∷ []
 moded n = append_assoc n (32 ∷ 120 ∷ []) (10 ∷ [])
 
+flagged : (n : List ℕ) → (n ++ 32 ∷ 108 ∷ []) ++ 10 ∷ [] ≡ n ++ 32 ∷ 108 ∷ 10 ∷ []
+flagged n = append_assoc n (32 ∷ 108 ∷ []) (10 ∷ [])
+
 pub lines-spelled : LinesAreSpelled
 lines-spelled n a = record {
   init =
@@ -66,6 +69,9 @@ lines-spelled n a = record {
   given_up =
       ap (λ (w : List ℕ). codes "giveup 1 " ++ w) (sym (ended (decimal n)))
       ∙ seated (codes "giveup") (decimal n ++ []);
+  asserted =
+      ap (λ (w : List ℕ). codes "assert 1 " ++ w) (sym (flagged (decimal n)))
+      ∙ seated (codes "assert") (decimal n ++ 32 ∷ 108 ∷ []);
   released =
       ap (λ (w : List ℕ). codes "unlock 1 " ++ w) (sym (moded (decimal n)))
       ∙ seated (codes "unlock") (decimal n ++ 32 ∷ 120 ∷ []);

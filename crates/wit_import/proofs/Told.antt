@@ -1,23 +1,28 @@
 -- Each pair that counts as written was written.
 use Rattle.std.proofs.Common.{◌≡◌, ℕ, Bool, true, false, not, ◌&&◌, ◌||◌, cond, List, [], ◌∷◌, ◌++◌}
 use Rattle.std.proofs.Common.{refl, sym, ap, ◌∙◌, subst, append_assoc, append-nil, inl, inr, ⊎_elim}
-use Rattle.std.proofs.Common.{◌⊎◌}
+use Rattle.std.proofs.Common.{◌⊎◌, Option, Some, None}
 use Rattle.std.specs.Str.{bytes_eq}
 use Rattle.std.proofs.lemmas.Bool.{or_cases, or_left, or_right, and_parts}
 use Rattle.std.proofs.lemmas.List.Folds.{list_any-append}
 use Rattle.std.proofs.lemmas.Slice.Eq.{bytes_eq-Decides}
 use Rattle.wit_import.specs.declared.events.Acquisition.{Acquisition}
 use Rattle.wit_import.specs.declared.events.Event.{Event}
-use Rattle.wit_import.specs.declared.events.Event.TheVariants.{Asks, Gets, Tries, Releases, Loses}
+use Rattle.wit_import.specs.declared.events.Event.TheVariants.{Asks, Gets, Tries, Releases, Twice, Loses}
 use Rattle.wit_import.specs.declared.held.Holding.{Holding}
 use Rattle.wit_import.specs.Blocks.{Told, are_known, has_room, held_inits, init_lines, is_written}
 use Rattle.wit_import.specs.Blocks.{lines_with, pair_text, request_text, told_after, types_after}
-use Rattle.wit_import.specs.Blocks.{block, with_pairs, with_types}
-use Rattle.wit_import.specs.Held.{asks_again, is_of}
+use Rattle.wit_import.specs.Blocks.{assert_line, block, has_place, held_lock, twice_text}
+use Rattle.wit_import.specs.Blocks.{with_pairs, with_types}
+use Rattle.wit_import.specs.declared.events.Release.{Release}
+use Rattle.wit_model.specs.declared.locks.Class.{Class}
+use Rattle.wit_model.specs.declared.locks.Class.TheVariants.{Sx}
+use Rattle.wit_import.specs.Held.{asks_again, is_of, place_released}
 use Rattle.wit_import.specs.Laws.{IsAmong, TellsPair, PairsAreTold, RequestsAreWritten, seen_behind}
 use Rattle.wit_import.specs.Laws.{text_behind}
 use Rattle.wit_import.specs.Names.{has_name, with_name}
-use Rattle.wit_import.specs.Outputs.{Seen, nothing_seen, seen_after, text_of_event}
+use Rattle.wit_import.specs.Outputs.{Seen, after_release, after_twice, nothing_seen, release_text}
+use Rattle.wit_import.specs.Outputs.{seen_after, text_of_event, unheld_text, with_unheld}
 
 -- ---- a name that is added
 
@@ -150,7 +155,7 @@ module _ (text : List ℕ) (t : Told) (held : List Holding) (a : Acquisition) wh
 
   abbrev made : List ℕ
   made =
-      held_inits t.types a.thread held ++ init_lines (with_types t.types a.thread held) a
+      held_inits t.types a.thread held ++ init_lines (with_types t.types a.thread held) a.class a.name
 
   parts : text ++ block t held a ≡ (text ++ made) ++ (lines_with types held a ++ [])
   parts =
@@ -188,12 +193,47 @@ nothing-more : (text : List ℕ) (pairs : List (List ℕ)) → AreTold text pair
     → AreTold (text ++ []) pairs
 nothing-more text pairs told = λ p has. longer text [] p (told p has)
 
+-- what is told of a release adds no pair
+more-told : (text more : List ℕ) (pairs : List (List ℕ)) → AreTold text pairs
+    → AreTold (text ++ more) pairs
+more-told text more pairs told = λ p has. longer text more p (told p has)
+
+twice-told : (s : Seen) (class : Class) (name text : List ℕ) → AreTold text s.told.pairs
+    → AreTold (text ++ twice_text s.told class name) (after_twice s name).told.pairs
+twice-told s class name text told = by (has_place s.told.types name)
+  where
+    lines : List ℕ
+    lines =
+        init_lines s.told.types class name
+        ++ assert_line (held_lock (with_name s.told.types name) name)
+
+    by : (b : Bool) → AreTold (text ++ cond b lines [])
+        (cond b (record s.told { types = with_name s.told.types name }) s.told).pairs
+    by true = more-told text lines s.told.pairs told
+    by false = nothing-more text s.told.pairs told
+
+unheld-told : (s : Seen) (name : Option (List ℕ)) (text : List ℕ) → AreTold text s.told.pairs
+    → AreTold (text ++ unheld_text s name) (with_unheld s name).told.pairs
+unheld-told s None text told = nothing-more text s.told.pairs told
+unheld-told s (Some name) text told = twice-told s Sx name text told
+
+release-told : (s : Seen) (r : Release) (place : Option ℕ) (text : List ℕ) → AreTold text s.told.pairs
+    → AreTold (text ++ release_text s r place) (after_release s r place).told.pairs
+release-told s r (Some n) text told = nothing-more text s.told.pairs told
+release-told s r None text told = by (has_name s.freed r.lock)
+  where
+    by : (b : Bool) → AreTold (text ++ cond b (unheld_text s r.name) [])
+        (cond b (with_unheld s r.name) s).told.pairs
+    by true = unheld-told s r.name text told
+    by false = nothing-more text s.told.pairs told
+
 event-told : (s : Seen) (event : Event) (text : List ℕ) → AreTold text s.told.pairs
     → AreTold (text ++ text_of_event s event) (seen_after s event).told.pairs
 event-told s (Asks a) text told = asking-told text s.told s.held a told
 event-told s (Gets a) text told = asking-told text s.told s.held a told
 event-told s (Tries a) text told = nothing-more text s.told.pairs told
-event-told s (Releases r) text told = nothing-more text s.told.pairs told
+event-told s (Releases r) text told = release-told s r (place_released s.held r) text told
+event-told s (Twice t) text told = twice-told s t.class t.name text told
 event-told s Loses text told = nothing-more text s.told.pairs told
 
 run-told : (events : List Event) (s : Seen) (text : List ℕ) → AreTold text s.told.pairs

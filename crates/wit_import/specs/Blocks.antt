@@ -1,14 +1,17 @@
 -- How a request is written, with what its thread holds: as lines of seat 1, which holds nothing before
 -- and after them. A type has two locks: one that stands for what is held, and one that stands for what
 -- is asked for.
-use Rattle.std.specs.Prelude.{ℕ, ◌+◌, ◌*◌, Bool, not, ◌&&◌, ◌||◌, nat_le, List, [], ◌∷◌, ◌++◌, length}
+use Rattle.std.specs.Prelude.{ℕ, ◌+◌, ◌*◌, Bool, not, ◌&&◌, ◌||◌, nat_le, nat_lt, List, [], ◌∷◌, ◌++◌, length}
 use Rattle.std.specs.Prelude.{Option, None, Some, codes, if◌then◌else◌}
 use Rattle.std.specs.List.{list_all}
 use Rattle.std.specs.Fmt.{decimal}
+use Rattle.wit_model.specs.declared.locks.Class.{Class}
 use Rattle.wit_model.specs.Trace.Spelling.{class_text}
 use Rattle.wit_import.specs.declared.blocks.TheConstants.{MOST_TYPES}
 use Rattle.wit_import.specs.declared.events.Acquisition.{Acquisition}
 use Rattle.wit_import.specs.declared.held.Holding.{Holding}
+use Rattle.wit_import.specs.declared.pairs.Fate.{Fate}
+use Rattle.wit_import.specs.declared.pairs.Fate.TheVariants.{Written, Known, LeftOut}
 use Rattle.wit_import.specs.Held.{is_of, asks_again}
 use Rattle.wit_import.specs.Names.{has_name, place_in, with_name}
 
@@ -48,6 +51,13 @@ abbrev pub is_written : Told → List Holding → Acquisition → Bool
 is_written t held a =
     not (are_known t.pairs a.thread a.name held) && (not (asks_again held a)
     && has_room t.types held a)
+
+-- what becomes of a request
+abbrev pub fate_of : Told → List Holding → Acquisition → Fate
+fate_of t held a =
+    if are_known t.pairs a.thread a.name held || asks_again held a then Known
+    else if has_room t.types held a then Written
+    else LeftOut
 
 -- ---- what is known then
 
@@ -93,9 +103,9 @@ abbrev pub place_text : Acquisition → List ℕ
 place_text a = a.file ++ 58 ∷ (decimal a.line ++ 10 ∷ [])
 
 -- a lock of this type is made, which may be acquired recursively
-abbrev pub init_line : Acquisition → List ℕ
-init_line a =
-    codes "init 1 " ++ (class_text a.class ++ (codes " r \"" ++ (a.name ++ 34 ∷ 10 ∷ [])))
+abbrev pub init_line : Class → List ℕ → List ℕ
+init_line class name =
+    codes "init 1 " ++ (class_text class ++ (codes " r \"" ++ (name ++ 34 ∷ 10 ∷ [])))
 
 abbrev pub check_line : ℕ → Acquisition → List ℕ
 check_line n a = codes "check 1 " ++ (decimal n ++ (codes " x n " ++ place_text a))
@@ -109,19 +119,23 @@ got_line n = codes "lock 1 " ++ (decimal n ++ 10 ∷ [])
 abbrev pub give_up_line : ℕ → List ℕ
 give_up_line n = codes "giveup 1 " ++ (decimal n ++ 10 ∷ [])
 
+-- it is said of a lock that it is held
+abbrev pub assert_line : ℕ → List ℕ
+assert_line n = codes "assert 1 " ++ (decimal n ++ (codes " l" ++ 10 ∷ []))
+
 abbrev pub unlock_line : ℕ → List ℕ
 unlock_line n = codes "unlock 1 " ++ (decimal n ++ (codes " x" ++ 10 ∷ []))
 
 -- the two locks of a type that has no number yet
-abbrev pub init_lines : List (List ℕ) → Acquisition → List ℕ
-init_lines types a =
-    if has_name types a.name then [] else init_line a ++ init_line a
+abbrev pub init_lines : List (List ℕ) → Class → List ℕ → List ℕ
+init_lines types class name =
+    if has_name types name then [] else init_line class name ++ init_line class name
 
 abbrev pub held_inits : List (List ℕ) → List ℕ → List Holding → List ℕ
 held_inits types thread [] = []
 held_inits types thread (h ∷ held) =
     if is_of thread h
-    then init_lines types h.acquisition
+    then init_lines types h.acquisition.class h.acquisition.name
     ++ held_inits (with_name types h.acquisition.name) thread held
     else held_inits types thread held
 
@@ -155,9 +169,26 @@ lines_with types held a =
 
 abbrev pub block : Told → List Holding → Acquisition → List ℕ
 block t held a =
-    held_inits t.types a.thread held ++ init_lines (with_types t.types a.thread held) a
+    held_inits t.types a.thread held ++ init_lines (with_types t.types a.thread held) a.class a.name
     ++ lines_with (types_after t.types held a) held a
 
 -- what is written of a request
 abbrev pub request_text : Told → List Holding → Acquisition → List ℕ
 request_text t held a = if is_written t held a then block t held a else []
+
+-- ---- a lock of this type was released that nobody holds
+
+-- a trace has room for the type
+abbrev pub has_place : List (List ℕ) → List ℕ → Bool
+has_place types name = has_name types name || nat_lt (length types) MOST_TYPES
+
+abbrev pub told_of_twice : Told → List ℕ → Told
+told_of_twice t name =
+    if has_place t.types name then record t { types = with_name t.types name } else t
+
+-- seat 1 holds nothing: so a lock of the type is said to be held that isn't
+abbrev pub twice_text : Told → Class → List ℕ → List ℕ
+twice_text t class name =
+    if has_place t.types name
+    then init_lines t.types class name ++ assert_line (held_lock (with_name t.types name) name)
+    else []

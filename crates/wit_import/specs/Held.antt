@@ -8,7 +8,8 @@ use Rattle.wit_import.specs.declared.events.Release.{Release}
 use Rattle.wit_import.specs.declared.events.Sharing.{Sharing}
 use Rattle.wit_import.specs.declared.events.Sharing.TheVariants.{Exclusive, Shared, Recursive}
 use Rattle.wit_import.specs.declared.held.Holding.{Holding}
-use Rattle.wit_import.specs.declared.held.TheConstants.{MOST_HELD}
+use Rattle.wit_import.specs.declared.held.TheConstants.{MOST_HELD, MOST_FREED}
+use Rattle.wit_import.specs.Names.{with_name}
 
 -- whether it is this thread's
 abbrev pub is_of : List ℕ → Holding → Bool
@@ -60,3 +61,8 @@ without held (Some n) = remove held n
 
 abbrev pub released : List Holding → Release → List Holding
 released held r = without held (place_released held r)
+
+-- ---- what was released: so many locks are kept, and for a further one all are forgotten
+
+abbrev pub with_freed : List (List ℕ) → List ℕ → List (List ℕ)
+with_freed freed lock = with_name (if nat_lt (length freed) MOST_FREED then freed else []) lock

@@ -13,6 +13,7 @@ abbrev pub seen : Importing → Seen
 seen m = record {
   begun = m.begun;
   held = m.held.items;
+  freed = written m.freed.keys;
   told = record { types = written m.types.keys; pairs = written m.pairs.keys };
 }
 

@@ -1,7 +1,7 @@
 -- The laws of what is written: each line is one of a trace, and no pair of types is lost.
 use Rattle.std.specs.Prelude.{ℕ, ◌≡◌, ◌⊎◌, true, false, List, [], ◌∷◌, ◌++◌, None}
 use Rattle.wit_model.specs.declared.lines.Line.{Line}
-use Rattle.wit_model.specs.declared.lines.Line.TheVariants.{Init, OnLock}
+use Rattle.wit_model.specs.declared.lines.Line.TheVariants.{Assert, Init, OnLock}
 use Rattle.wit_model.specs.declared.lines.LockLine.TheVariants.{Check, Try, Unlock, Plain}
 use Rattle.wit_model.specs.declared.lines.Verb.TheVariants.{Note, GiveUp}
 use Rattle.wit_model.specs.declared.locks.Mode.TheVariants.{Exclusive}
@@ -11,7 +11,7 @@ use Rattle.wit_model.specs.Trace.Spelling.{spelling}
 use Rattle.wit_import.specs.declared.events.Acquisition.{Acquisition}
 use Rattle.wit_import.specs.declared.events.Event.{Event}
 use Rattle.wit_import.specs.declared.held.Holding.{Holding}
-use Rattle.wit_import.specs.Blocks.{check_line, give_up_line, got_line, has_room, init_line}
+use Rattle.wit_import.specs.Blocks.{assert_line, check_line, give_up_line, got_line, has_room, init_line}
 use Rattle.wit_import.specs.Blocks.{lines_with, pair_text, try_line, unlock_line}
 use Rattle.wit_import.specs.Held.{asks_again, is_of}
 use Rattle.wit_import.specs.Names.{has_name}
@@ -30,7 +30,7 @@ lock n = record { 0 = n }
 
 -- on lock n, and by an acquisition, these lines of a trace are written, and no other
 pub record AreSpelled (n : ℕ) (a : Acquisition) : Type 0 where
-  pub init : init_line a
+  pub init : init_line a.class a.name
       ≡ line_text (Init seat (record {
         class = a.class;
         flags = record { 0 = 1 };
@@ -42,6 +42,7 @@ pub record AreSpelled (n : ℕ) (a : Acquisition) : Type 0 where
   pub tried : try_line n a ≡ line_text (OnLock (Try seat (lock n) Exclusive a.file a.line))
   pub got : got_line n ≡ line_text (OnLock (Plain Note seat (lock n)))
   pub given_up : give_up_line n ≡ line_text (OnLock (Plain GiveUp seat (lock n)))
+  pub asserted : assert_line n ≡ line_text (Assert seat (lock n) (record { 0 = 2 }))
   pub released : unlock_line n ≡ line_text (OnLock (Unlock seat (lock n) Exclusive))
 
 abbrev pub LinesAreSpelled : Type 0

@@ -5,3 +5,4 @@ pub mod Laws
 pub mod Names
 pub mod Outputs
 pub mod Reading
+pub mod Telling

@@ -1,5 +1,5 @@
 -- What is written of lines, and how the reading ends.
-use Rattle.std.specs.Prelude.{◌≡◌, ℕ, ◌+◌, Bool, true, false, nat_lt, List, [], ◌∷◌, ◌++◌, length}
+use Rattle.std.specs.Prelude.{◌≡◌, ℕ, ◌+◌, Bool, true, false, nat_lt, List, [], ◌∷◌, ◌++◌, length, remove}
 use Rattle.std.specs.Prelude.{Option, Some, None, refl, codes, if◌then◌else◌}
 use Rattle.wit_model.specs.declared.lines.Cause.{Cause}
 use Rattle.wit_model.specs.declared.lines.Cause.TheVariants as why
@@ -9,21 +9,31 @@ use Rattle.wit_stream.specs.declared.summary.Summary.{Summary}
 use Rattle.wit_stream.specs.Text.{text_of}
 use Rattle.wit_import.specs.declared.events.Acquisition.{Acquisition}
 use Rattle.wit_import.specs.declared.events.Event.{Event}
-use Rattle.wit_import.specs.declared.events.Event.TheVariants.{Asks, Gets, Tries, Releases, Loses}
+use Rattle.wit_import.specs.declared.events.Event.TheVariants.{Asks, Gets, Tries, Releases, Twice, Loses}
 use Rattle.wit_import.specs.declared.held.Holding.{Holding}
-use Rattle.wit_import.specs.Blocks.{Told, request_text, told_after}
-use Rattle.wit_import.specs.Held.{released, with_newest}
+use Rattle.wit_model.specs.declared.locks.Class.TheVariants.{Sx}
+use Rattle.wit_import.specs.declared.events.Release.{Release}
+use Rattle.wit_import.specs.Blocks.{Told, request_text, told_after, told_of_twice, twice_text}
+use Rattle.wit_import.specs.Held.{place_released, with_freed, with_newest}
+use Rattle.wit_import.specs.Names.{has_name}
 use Rattle.wit_import.specs.Reading.{plain_line}
 
--- ---- what was read so far: whether the trace was begun, what is held, and what was written
+-- ---- what was read so far: whether the trace was begun, what is held, which locks were released, and
+-- what was written
 
 pub record Seen : Type 0 where
   pub begun : Bool
   pub held : List Holding
+  pub freed : List (List ℕ)
   pub told : Told
 
 abbrev pub nothing_seen : Seen
-nothing_seen = record { begun = false; held = []; told = record { types = []; pairs = [] } }
+nothing_seen = record {
+  begun = false;
+  held = [];
+  freed = [];
+  told = record { types = []; pairs = [] };
+}
 
 -- ---- the lines that a trace begins with
 
@@ -47,18 +57,42 @@ after_asking s a = record s { told = told_after s.told s.held a }
 abbrev pub with_holding : Seen → Holding → Seen
 with_holding s h = record s { held = with_newest s.held h }
 
+-- a lock of this type was released that nobody holds
+abbrev pub after_twice : Seen → List ℕ → Seen
+after_twice s name = record s { told = told_of_twice s.told name }
+
+-- where nobody holds a lock, that is told if it was released before and has a name
+abbrev pub with_unheld : Seen → Option (List ℕ) → Seen
+with_unheld s None = s
+with_unheld s (Some name) = after_twice s name
+
+abbrev pub unheld_text : Seen → Option (List ℕ) → List ℕ
+unheld_text s None = []
+unheld_text s (Some name) = twice_text s.told Sx name
+
+abbrev pub after_release : Seen → Release → Option ℕ → Seen
+after_release s r (Some n) =
+    record s { held = remove s.held n; freed = with_freed s.freed r.lock }
+after_release s r None = if has_name s.freed r.lock then with_unheld s r.name else s
+
+abbrev pub release_text : Seen → Release → Option ℕ → List ℕ
+release_text s r (Some n) = []
+release_text s r None = if has_name s.freed r.lock then unheld_text s r.name else []
+
 abbrev pub seen_after : Seen → Event → Seen
 seen_after s (Asks a) = after_asking s a
 seen_after s (Gets a) = with_holding (after_asking s a) (holding a false)
 seen_after s (Tries a) = with_holding s (holding a true)
-seen_after s (Releases r) = record s { held = released s.held r }
-seen_after s Loses = record s { held = [] }
+seen_after s (Releases r) = after_release s r (place_released s.held r)
+seen_after s (Twice t) = after_twice s t.name
+seen_after s Loses = record s { held = []; freed = [] }
 
 abbrev pub text_of_event : Seen → Event → List ℕ
 text_of_event s (Asks a) = request_text s.told s.held a
 text_of_event s (Gets a) = request_text s.told s.held a
 text_of_event s (Tries a) = []
-text_of_event s (Releases r) = []
+text_of_event s (Releases r) = release_text s r (place_released s.held r)
+text_of_event s (Twice t) = twice_text s.told t.class t.name
 text_of_event s Loses = []
 
 -- ---- a line, of which this is told

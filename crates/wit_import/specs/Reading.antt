@@ -86,10 +86,14 @@ acquisition_of bytes =
       line = x.1.1.1.1.1;
     })
 
--- what stands behind the lock is passed over
+-- what stands behind the lock is passed over; the beginning of its word is a name for it, if it may be
 unfoldable pub release_of : List ℕ → Option Release
 release_of bytes =
-    both leading_word leading_word bytes >>= λ x. Some (record { thread = x.0.0; lock = x.0.1 })
+    both leading_word leading_word bytes >>= λ x. Some (record {
+      thread = x.0.0;
+      lock = x.0.1;
+      name = accepted is_name (beginning x.0.1);
+    })
 
 -- what a line tells: nothing where it begins with no keyword
 abbrev pub event_of : Option Keyword → List ℕ → Option (Option Event)

@@ -1,9 +1,11 @@
 //! The lines of a request, with what its thread holds.
 
 ghost use Rattle.std.specs.Prelude.{◌≡◌, ◌+◌, ◌<◌, ◌^◌, ◌++◌, ◌∷◌, [], OnOk, codes};
+ghost use Rattle.std.specs.Prelude.{if◌then◌else◌};
 ghost use Rattle.std.specs.Fmt.{decimal};
 ghost use Rattle.wit_model.specs.Trace.Spelling.{class_text};
-ghost use Rattle.wit_import.specs.Blocks.{asked_lock, asking_lines, check_line, give_up_line};
+ghost use Rattle.wit_import.specs.Blocks.{asked_lock, asking_lines, assert_line, check_line, give_up_line};
+ghost use Rattle.wit_import.specs.Blocks.{has_place};
 ghost use Rattle.wit_import.specs.Blocks.{got_line, held_inits, held_lines, held_lock, init_line};
 ghost use Rattle.wit_import.specs.Blocks.{holding_lines, init_lines, lines_with, place_text};
 ghost use Rattle.wit_import.specs.Blocks.{release_lines, try_line, types_after, unlock_line, with_types};
@@ -11,10 +13,10 @@ ghost use Rattle.wit_import.specs.Names.{with_name, written};
 
 use crate::events::Acquisition;
 use crate::held::Holding;
-use crate::names::{Names, add_name, has_name, place_of};
+use crate::names::{Names, add_name, count, has_name, place_of};
 use crate::words::Word;
 use std::alloc::{AllocError, Global};
-use wit_model::Class;
+use wit_model::{Class, Name};
 
 /// A trace has room for so many types.
 pub const MOST_TYPES: usize = 1023;
@@ -35,10 +37,11 @@ pub fn number_types(
         ≡ types_after (written types.old.keys) held.now asked.now) }
     ensures text { OnOk result (text.new.items ≡ text.old.items
         ++ (held_inits (written types.old.keys) asked.now.thread held.now
-        ++ init_lines (with_types (written types.old.keys) asked.now.thread held.now) asked.now)) }
+        ++ init_lines (with_types (written types.old.keys) asked.now.thread held.now)
+        asked.now.class asked.now.name)) }
 {
     number_held(alloc, types, held, &asked.thread, text)?;
-    number(alloc, types, asked, text)
+    number(alloc, types, asked.class, &asked.name, text)
 }
 
 fn number_held(
@@ -57,7 +60,8 @@ fn number_held(
         [] => Ok(()),
         [holding, others @ ..] => {
             if holding.is_of(thread) {
-                number(alloc, types, &holding.acquisition, text)?;
+                let acquisition = &holding.acquisition;
+                number(alloc, types, acquisition.class, &acquisition.name, text)?;
             }
             number_held(alloc, types, others, thread, text)
         }
@@ -67,21 +71,57 @@ fn number_held(
 fn number(
     alloc: Global,
     types: &mut Names,
-    acquisition: &Acquisition,
+    class: Class,
+    name: &Name,
     text: &mut Vec<u8>,
 ) -> Result<(), AllocError>
     ensures types { OnOk result (written types.new.keys
-        ≡ with_name (written types.old.keys) acquisition.now.name) }
+        ≡ with_name (written types.old.keys) name.now) }
     ensures text { OnOk result (text.new.items ≡ text.old.items
-        ++ init_lines (written types.old.keys) acquisition.now) }
+        ++ init_lines (written types.old.keys) class name.now) }
 {
-    let name = acquisition.name.as_str().as_bytes();
-    if has_name(types, name) {
+    let bytes = name.as_str().as_bytes();
+    if has_name(types, bytes) {
         return Ok(());
     }
-    put_init(text, acquisition)?;
-    put_init(text, acquisition)?;
-    add_name(alloc, types, name)
+    put_init(text, class, name)?;
+    put_init(text, class, name)?;
+    add_name(alloc, types, bytes)
+}
+
+/// Whether a trace has room for the type with this name.
+pub fn has_place(types: &Names, name: &Name) -> bool
+    ensures { result ≡ has_place (written types.now.keys) name.now }
+{
+    has_name(types, name.as_str().as_bytes()) || count(types) < MOST_TYPES
+}
+
+/// Puts behind the text that a lock of this type was released that nobody holds, where a trace has room
+/// for the type.
+///
+/// # Errors
+/// Want of memory alone.
+pub fn put_twice(
+    alloc: Global,
+    types: &mut Names,
+    class: Class,
+    name: &Name,
+    text: &mut Vec<u8>,
+) -> Result<(), AllocError>
+    ensures types { OnOk result (written types.new.keys
+        ≡ (if has_place (written types.old.keys) name.now
+        then with_name (written types.old.keys) name.now else written types.old.keys)) }
+    ensures text { OnOk result (text.new.items ≡ text.old.items
+        ++ (if has_place (written types.old.keys) name.now
+        then init_lines (written types.old.keys) class name.now
+        ++ assert_line (held_lock (with_name (written types.old.keys) name.now) name.now)
+        else [])) }
+{
+    if !has_place(types, name) {
+        return Ok(());
+    }
+    number(alloc, types, class, name, text)?;
+    put_assert(text, lock_of(types, name))
 }
 
 /// Puts the lines of a request, and of what its thread holds, behind the text.
@@ -169,7 +209,14 @@ fn held_lock(types: &Names, acquisition: &Acquisition) -> u32
     ensures number { result ≡ held_lock (written types.now.keys) acquisition.now.name }
     ensures small { result + 1 < 2 ^ 32 }
 {
-    match place_of(types, acquisition.name.as_str().as_bytes()) {
+    lock_of(types, &acquisition.name)
+}
+
+fn lock_of(types: &Names, name: &Name) -> u32
+    ensures number { result ≡ held_lock (written types.now.keys) name.now }
+    ensures small { result + 1 < 2 ^ 32 }
+{
+    match place_of(types, name.as_str().as_bytes()) {
         Some(place) if place <= MOST_TYPES => 2 * place as u32 + 1,
         _ => 1,
     }
@@ -177,20 +224,20 @@ fn held_lock(types: &Names, acquisition: &Acquisition) -> u32
 
 // ---- a line each, behind the text
 
-fn put_init(text: &mut Vec<u8>, acquisition: &Acquisition) -> Result<(), AllocError>
-    ensures { OnOk result (text.new.items ≡ text.old.items ++ init_line acquisition.now) }
+fn put_init(text: &mut Vec<u8>, class: Class, name: &Name) -> Result<(), AllocError>
+    ensures { OnOk result (text.new.items ≡ text.old.items ++ init_line class name.now) }
 {
     text.extend_from_slice(b"init 1 ")?;
-    put_type(text, acquisition)
+    put_type(text, class, name)
 }
 
-fn put_type(text: &mut Vec<u8>, acquisition: &Acquisition) -> Result<(), AllocError>
-    ensures { OnOk result (text.new.items ≡ text.old.items ++ (class_text acquisition.now.class
-        ++ (codes " r \"" ++ (acquisition.now.name ++ 34 ∷ 10 ∷ [])))) }
+fn put_type(text: &mut Vec<u8>, class: Class, name: &Name) -> Result<(), AllocError>
+    ensures { OnOk result (text.new.items ≡ text.old.items ++ (class_text class
+        ++ (codes " r \"" ++ (name.now ++ 34 ∷ 10 ∷ [])))) }
 {
-    text.extend_from_slice(class_text(acquisition.class))?;
+    text.extend_from_slice(class_text(class))?;
     text.extend_from_slice(b" r \"")?;
-    text.extend_from_slice(acquisition.name.as_str().as_bytes())?;
+    text.extend_from_slice(name.as_str().as_bytes())?;
     text.extend_from_slice(b"\"\n")
 }
 
@@ -238,6 +285,14 @@ fn put_give_up(text: &mut Vec<u8>, lock: u32) -> Result<(), AllocError>
     put_digits(text, lock)?;
     text.push(b'\n')?;
     Ok(())
+}
+
+fn put_assert(text: &mut Vec<u8>, lock: u32) -> Result<(), AllocError>
+    ensures { OnOk result (text.new.items ≡ text.old.items ++ assert_line lock) }
+{
+    text.extend_from_slice(b"assert 1 ")?;
+    put_digits(text, lock)?;
+    text.extend_from_slice(b" l\n")
 }
 
 fn put_unlock(text: &mut Vec<u8>, lock: u32) -> Result<(), AllocError>

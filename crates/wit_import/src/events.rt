@@ -33,6 +33,15 @@ pub struct Acquisition {
 pub struct Release {
     pub thread: Word,
     pub lock: Word,
+    /// A name for the lock, where its word may be one.
+    pub name: Option<Name>,
+}
+
+/// The type of a lock.
+#[derive(Debug, Drop)]
+pub struct LockType {
+    pub class: Class,
+    pub name: Name,
 }
 
 /// What a line tells.
@@ -47,6 +56,8 @@ pub enum Event {
     Tries(Acquisition),
     /// `rel`: it releases a lock.
     Releases(Release),
+    /// A lock of this type is released that nobody holds. No line of a script tells so.
+    Twice(LockType),
     /// `Lost`: events are missing, so nothing is known of what threads hold.
     Loses,
 }

@@ -2,17 +2,22 @@
 
 ghost use Rattle.std.specs.Prelude.{◌≡◌, ◌+◌, ◌<◌, ◌^◌};
 ghost use Rattle.std.specs.Prelude.{IfSome, length, OnOk};
+ghost use Rattle.wit_import.specs.Names.{written};
 ghost use Rattle.std.specs.List.{list_any};
 ghost use Rattle.wit_import.specs.Held.{asks_again, is_lock, is_of, is_own, is_recursive};
-ghost use Rattle.wit_import.specs.Held.{last_from, place_released, released, with_newest};
+ghost use Rattle.wit_import.specs.Held.{last_from, place_released, with_freed, with_newest};
 
 use crate::events::{Acquisition, Release, Sharing};
+use crate::names::{Names, add_name, count};
 use crate::words::Word;
-use std::alloc::AllocError;
+use std::alloc::{AllocError, Global};
 
 /// So many acquisitions are kept at most. That many locks are held at no time: but where a source
 /// misses releases, what is left of them would grow for ever, and be walked over.
 pub const MOST_HELD: usize = 4096;
+
+/// So many locks are kept at most that were released.
+pub const MOST_FREED: usize = 4096;
 
 /// An acquisition that wasn't released yet.
 #[derive(Debug, Drop)]
@@ -79,17 +84,9 @@ fn is_recursive(sharing: Sharing) -> bool
     }
 }
 
-/// Takes out the newest acquisition of the lock by the thread. Where there is none, the newest by any
-/// other.
-pub fn release(held: &mut Vec<Holding>, release: &Release)
-    ensures { held.new.items ≡ released held.old.items release.now }
-{
-    if let Some(place) = place_released(held, release) {
-        held.remove(place);
-    }
-}
-
-fn place_released(held: &[Holding], release: &Release) -> Option<usize>
+/// Where the acquisition stands that ends: the newest of the lock by the thread. Where there is none, the
+/// newest by any other.
+pub fn place_released(held: &[Holding], release: &Release) -> Option<usize>
     ensures place { result ≡ place_released held.now release.now }
     ensures within { IfSome result (λ n. n < length held.now) }
 {
@@ -146,4 +143,17 @@ fn any_from(
             any_from(others, first + 1, found, release)
         }
     }
+}
+
+/// Notes that a lock was released. Where so many were noted already, all are forgotten.
+///
+/// # Errors
+/// Want of memory alone.
+pub fn note_freed(alloc: Global, freed: &mut Names, lock: &Word) -> Result<(), AllocError>
+    ensures { OnOk result (written freed.new.keys ≡ with_freed (written freed.old.keys) lock.now) }
+{
+    if count(freed) >= MOST_FREED {
+        freed.clear();
+    }
+    add_name(alloc, freed, lock.as_bytes())
 }

@@ -1,25 +1,27 @@
 //! An import, as its lines come.
 
-ghost use Rattle.std.specs.Prelude.{◌≡◌, ◌++◌, [], Err, IfOk, OnOk, OnErr};
+ghost use Rattle.std.specs.Prelude.{◌≡◌, ◌++◌, [], None, Err, IfOk, OnOk, OnErr};
 ghost use Rattle.wit_stream.specs.Stream.{ReadsToEnd, WritesFront, WritesLines, WritesOutput};
 ghost use Rattle.wit_stream.specs.declared.summary.ReplayError.TheVariants as ReplayError;
-ghost use Rattle.wit_import.specs.Blocks.{request_text};
+ghost use Rattle.wit_import.specs.Blocks.{request_text, twice_text};
+ghost use Rattle.wit_import.specs.Held.{place_released};
 ghost use Rattle.wit_import.specs.Importing.{allowed, Enters, RefusesAt, seen};
-ghost use Rattle.wit_import.specs.Outputs.{after_asking, ended, header, Imports, ImportsFrom, IsOutput};
+ghost use Rattle.wit_import.specs.Outputs.{after_asking, after_release, after_twice, ended, header};
+ghost use Rattle.wit_import.specs.Outputs.{Imports, ImportsFrom, IsOutput, release_text};
 ghost use Rattle.wit_import.specs.Outputs.{nothing_seen, opening, output_from, refused};
 ghost use Rattle.wit_import.specs.Outputs.{seen_after, some_output, text_of_event};
 
-use crate::blocks::{number_types, put_request};
-use crate::events::{Acquisition, Event};
-use crate::held::{Holding, hold, release};
-use crate::names::Names;
-use crate::pairs::{add_pairs, is_written};
+use crate::blocks::{has_place, number_types, put_request, put_twice};
+use crate::events::{Acquisition, Event, LockType, Release};
+use crate::held::{Holding, hold, note_freed, place_released};
+use crate::names::{Names, has_name};
+use crate::pairs::{Fate, add_pairs, fate_of};
 use crate::reading::plain_line;
 use indexmap::IndexSet;
 use std::alloc::{AllocError, Global};
 use std::io::{BufRead, Write};
 use wit_fields::LineError;
-use wit_model::{Boxed, Cause};
+use wit_model::{Boxed, Cause, Class, Name};
 use wit_stream::{Failures, Machine, Pace, ReplayError, Step, Summary, run};
 use wit_trace::bad_text;
 
@@ -27,7 +29,8 @@ use wit_trace::bad_text;
 /// each request of which a pair of types is new, the held one and the one that is asked for, with
 /// what its thread holds.
 ///
-/// A bad line ends the reading: its number and cause are written then.
+/// A bad line ends the reading: its number and cause are written then. What is counted meanwhile is for
+/// who wants to tell it: it is no part of the trace.
 ///
 /// # Errors
 /// `Read` where the reader failed, `Write` where the writer failed, took no byte or didn't flush,
@@ -37,6 +40,7 @@ pub fn import<R: BufRead, W: Write>(
     alloc: Global,
     input: &mut R,
     output: &mut W,
+    counts: &mut Counts,
 ) -> Result<Summary, ReplayError>
     ensures ok { IfOk result (WritesOutput Imports
         (R.remaining input.old) (W.contents output.old) (W.contents output.new)) }
@@ -49,20 +53,30 @@ pub fn import<R: BufRead, W: Write>(
         (R.remaining input.old) (R.remaining input.new)
         (W.contents output.old) (W.contents output.new) }
 {
-    let mut machine = Importing {
-        begun: false,
-        held: Vec::new(alloc),
-        types: IndexSet::new(alloc),
-        pairs: IndexSet::new(alloc),
-    };
-    run(
+    let mut machine = Importing::new(alloc);
+    let ended = run(
         alloc,
         &mut Failures::new(),
         &mut machine,
         Pace::Gathered,
         input,
         output,
-    )
+    );
+    *counts = machine.counts;
+    ended
+}
+
+/// What an import counts.
+#[derive(Clone, Copy, Debug, PartialEq, Eq, Default)]
+pub struct Counts {
+    /// Requests, and releases of what nobody holds, that weren't written for want of room for their types.
+    pub left_out: u64,
+    /// Releases of what nobody holds.
+    pub unheld: u64,
+    /// Lines that tell nothing.
+    pub passed: u64,
+    /// Lines that tell that events are missing.
+    pub lost: u64,
 }
 
 /// An import in progress.
@@ -70,8 +84,12 @@ pub fn import<R: BufRead, W: Write>(
 pub(crate) struct Importing {
     /// Whether the header was written.
     begun: bool,
+    /// What was counted.
+    pub(crate) counts: Counts,
     /// What threads hold, oldest first.
     held: Vec<Holding>,
+    /// The locks that were released.
+    freed: Names,
     /// The names of the types that have numbers.
     types: Names,
     /// The pairs of types that were written.
@@ -79,6 +97,20 @@ pub(crate) struct Importing {
 }
 
 impl Importing {
+    /// One that saw nothing.
+    pub(crate) fn new(alloc: Global) -> Importing
+        ensures { seen result ≡ nothing_seen }
+    {
+        Importing {
+            begun: false,
+            counts: Counts::default(),
+            held: Vec::new(alloc),
+            freed: IndexSet::new(alloc),
+            types: IndexSet::new(alloc),
+            pairs: IndexSet::new(alloc),
+        }
+    }
+
     // Enters what a line tells, and puts what is written of it into the text.
     fn enter(
         &mut self,
@@ -90,14 +122,24 @@ impl Importing {
         ensures { OnOk result (Enters (seen self.old) event (seen self.new) text.new.items) }
     {
         put_opening(self.begun, text)?;
-        if let Some(event) = event {
-            self.follow(alloc, event, text)?;
+        match event {
+            Some(event) => self.follow(alloc, event, text)?,
+            None => self.counts.passed = self.counts.passed.saturating_add(1),
         }
         self.begun = true;
         Ok(())
     }
 
-    fn follow(&mut self, alloc: Global, event: Event, text: &mut Vec<u8>) -> Result<(), AllocError>
+    /// Follows an event, and puts what is written of it behind the text.
+    ///
+    /// # Errors
+    /// Want of memory alone.
+    pub(crate) fn follow(
+        &mut self,
+        alloc: Global,
+        event: Event,
+        text: &mut Vec<u8>,
+    ) -> Result<(), AllocError>
         ensures seen { OnOk result (seen self.new ≡ seen_after (seen self.old) event) }
         ensures text { OnOk result (text.new.items
             ≡ text.old.items ++ text_of_event (seen self.old) event) }
@@ -113,8 +155,13 @@ impl Importing {
                 let tried = true;
                 hold(&mut self.held, Holding { acquisition, tried })?;
             }
-            Event::Releases(released) => release(&mut self.held, &released),
-            Event::Loses => self.held.clear(),
+            Event::Releases(released) => self.release(alloc, &released, text)?,
+            Event::Twice(of) => self.tell_twice(alloc, &of, text)?,
+            Event::Loses => {
+                self.counts.lost = self.counts.lost.saturating_add(1);
+                self.held.clear();
+                self.freed.clear();
+            }
         }
         Ok(())
     }
@@ -129,12 +176,92 @@ impl Importing {
         ensures text { OnOk result (text.new.items ≡ text.old.items
             ++ request_text (seen self.old).told (seen self.old).held asked.now) }
     {
-        if !is_written(alloc, &self.types, &self.pairs, &self.held, asked)? {
+        match fate_of(alloc, &self.types, &self.pairs, &self.held, asked)? {
+            Fate::Known => Ok(()),
+            Fate::LeftOut => {
+                self.counts.left_out = self.counts.left_out.saturating_add(1);
+                Ok(())
+            }
+            Fate::Written => {
+                number_types(alloc, &mut self.types, &self.held, asked, text)?;
+                put_request(&self.types, &self.held, asked, text)?;
+                add_pairs(alloc, &mut self.pairs, &self.held, asked)
+            }
+        }
+    }
+
+    fn release(
+        &mut self,
+        alloc: Global,
+        released: &Release,
+        text: &mut Vec<u8>,
+    ) -> Result<(), AllocError>
+        ensures seen { OnOk result (seen self.new ≡ after_release (seen self.old) released.now
+            (place_released (seen self.old).held released.now)) }
+        ensures text { OnOk result (text.new.items ≡ text.old.items
+            ++ release_text (seen self.old) released.now
+            (place_released (seen self.old).held released.now)) }
+    {
+        match place_released(&self.held, released) {
+            Some(place) => {
+                self.held.remove(place);
+                note_freed(alloc, &mut self.freed, &released.lock)
+            }
+            None => self.release_unheld(alloc, released, text),
+        }
+    }
+
+    // Nobody holds the lock.
+    fn release_unheld(
+        &mut self,
+        alloc: Global,
+        released: &Release,
+        text: &mut Vec<u8>,
+    ) -> Result<(), AllocError>
+        ensures seen { OnOk result
+            (seen self.new ≡ after_release (seen self.old) released.now None) }
+        ensures text { OnOk result (text.new.items ≡ text.old.items
+            ++ release_text (seen self.old) released.now None) }
+    {
+        self.counts.unheld = self.counts.unheld.saturating_add(1);
+        if !has_name(&self.freed, released.lock.as_bytes()) {
             return Ok(());
         }
-        number_types(alloc, &mut self.types, &self.held, asked, text)?;
-        put_request(&self.types, &self.held, asked, text)?;
-        add_pairs(alloc, &mut self.pairs, &self.held, asked)
+        match &released.name {
+            Some(name) => self.put_twice(alloc, Class::Sx, name, text),
+            None => Ok(()),
+        }
+    }
+
+    fn tell_twice(
+        &mut self,
+        alloc: Global,
+        of: &LockType,
+        text: &mut Vec<u8>,
+    ) -> Result<(), AllocError>
+        ensures seen { OnOk result (seen self.new ≡ after_twice (seen self.old) of.now.name) }
+        ensures text { OnOk result (text.new.items ≡ text.old.items
+            ++ twice_text (seen self.old).told of.now.class of.now.name) }
+    {
+        self.put_twice(alloc, of.class, &of.name, text)
+    }
+
+    fn put_twice(
+        &mut self,
+        alloc: Global,
+        class: Class,
+        name: &Name,
+        text: &mut Vec<u8>,
+    ) -> Result<(), AllocError>
+        ensures seen { OnOk result (seen self.new ≡ after_twice (seen self.old) name.now) }
+        ensures text { OnOk result (text.new.items ≡ text.old.items
+            ++ twice_text (seen self.old).told class name.now) }
+    {
+        if !has_place(&self.types, name) {
+            self.counts.left_out = self.counts.left_out.saturating_add(1);
+            return Ok(());
+        }
+        put_twice(alloc, &mut self.types, class, name, text)
     }
 }
 
@@ -194,7 +321,7 @@ fn put_opening(begun: bool, text: &mut Vec<u8>) -> Result<(), AllocError>
     put_header(text)
 }
 
-fn put_header(text: &mut Vec<u8>) -> Result<(), AllocError>
+pub(crate) fn put_header(text: &mut Vec<u8>) -> Result<(), AllocError>
     ensures { OnOk result (text.new.items ≡ text.old.items ++ header) }
 {
     text.extend_from_slice(

@@ -10,9 +10,11 @@ pub mod laws;
 mod names;
 mod pairs;
 mod reading;
+mod telling;
 mod words;
 
-pub use events::{Acquisition, Event, Release, Sharing};
-pub use importing::import;
+pub use events::{Acquisition, Event, LockType, Release, Sharing};
+pub use importing::{Counts, import};
 pub use reading::{Keyword, plain_line};
+pub use telling::Teller;
 pub use words::Word;

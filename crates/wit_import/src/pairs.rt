@@ -2,7 +2,7 @@
 
 ghost use Rattle.std.specs.Prelude.{◌≡◌, ◌≤◌, IfOk, OnOk, if◌then◌else◌};
 ghost use Rattle.wit_import.specs.declared.blocks.TheConstants.{MOST_TYPES};
-ghost use Rattle.wit_import.specs.Blocks.{are_known, has_room, have_room, is_written};
+ghost use Rattle.wit_import.specs.Blocks.{are_known, fate_of, has_room, have_room};
 ghost use Rattle.wit_import.specs.Blocks.{missing, pair_text, with_pairs};
 ghost use Rattle.wit_import.specs.Held.{is_of};
 ghost use Rattle.wit_import.specs.Names.{has_name, written};
@@ -15,25 +15,40 @@ use crate::words::Word;
 use std::alloc::{AllocError, Global};
 use wit_model::Name;
 
-/// Whether a request is written.
+/// What becomes of a request.
+#[derive(Clone, Copy, Debug, PartialEq, Eq)]
+pub enum Fate {
+    /// It is written.
+    Written,
+    /// It tells nothing new.
+    Known,
+    /// A trace has no room for its types.
+    LeftOut,
+}
+
+/// What becomes of a request: whether it is written, and if not, why.
 ///
 /// # Errors
 /// Want of memory alone.
-pub fn is_written(
+pub fn fate_of(
     alloc: Global,
     types: &Names,
     pairs: &Names,
     held: &[Holding],
     asked: &Acquisition,
-) -> Result<bool, AllocError>
-    ensures { IfOk result (λ is. is ≡ is_written
+) -> Result<Fate, AllocError>
+    ensures { IfOk result (λ fate. fate ≡ fate_of
         (record { types = written types.now.keys; pairs = written pairs.now.keys })
         held.now asked.now) }
 {
-    if is_known(alloc, pairs, held, &asked.thread, &asked.name)? {
-        return Ok(false);
+    if is_known(alloc, pairs, held, &asked.thread, &asked.name)? || asks_again(held, asked) {
+        return Ok(Fate::Known);
     }
-    Ok(!asks_again(held, asked) && has_room(types, held, asked))
+    if has_room(types, held, asked) {
+        Ok(Fate::Written)
+    } else {
+        Ok(Fate::LeftOut)
+    }
 }
 
 // Whether each type that the thread holds makes a pair with this one that was written.

@@ -1,6 +1,6 @@
 //! Reading a line of a script.
 
-ghost use Rattle.std.specs.Prelude.{◌≡◌, drop};
+ghost use Rattle.std.specs.Prelude.{◌≡◌, drop, IfOk};
 ghost use Rattle.wit_fields.specs.Fields.{Gives};
 ghost use Rattle.wit_model.specs.Rules.Names.{is_file_name, is_name};
 ghost use Rattle.wit_model.specs.Trace.Reading.{accepted, class_named, field_at};
@@ -10,7 +10,7 @@ ghost use Rattle.wit_import.specs.Reading.{sharing_named, type_named, type_with}
 
 use crate::events::{Acquisition, Event, Release, Sharing};
 use crate::words::Word;
-use std::alloc::Global;
+use std::alloc::{AllocError, Global};
 use std::str;
 use wit_fields::LineError;
 use wit_fields::names::site;
@@ -111,7 +111,19 @@ fn release(alloc: Global, bytes: &[u8]) -> Result<Release, LineError>
     Ok(Release {
         thread: Word::new(alloc, thread)?,
         lock: Word::new(alloc, lock)?,
+        name: name_if_any(alloc, beginning(lock))?,
     })
+}
+
+// The name that these bytes are, if they are one.
+fn name_if_any(alloc: Global, bytes: &[u8]) -> Result<Option<Name>, AllocError>
+    ensures { IfOk result (λ name. name ≡ accepted is_name bytes.now) }
+{
+    match name_of(alloc, bytes) {
+        Ok(name) => Ok(Some(name)),
+        Err(LineError::Bad(_)) => Ok(None),
+        Err(LineError::Memory) => Err(AllocError),
+    }
 }
 
 // A type by its class and its name.

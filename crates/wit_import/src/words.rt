@@ -33,6 +33,13 @@ impl Word {
         })
     }
 
+    /// Its bytes.
+    pub fn as_bytes(&self) -> &[u8]
+        ensures { result.now ≡ self.now }
+    {
+        self.bytes.as_slice()
+    }
+
     /// Whether it is written as that one.
     pub fn is(&self, other: &Word) -> bool
         ensures { result ≡ bytes_eq self.now other.now }

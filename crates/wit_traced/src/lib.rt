@@ -1,0 +1,20 @@
+//! What lines of ftrace tell of locks: who acquires or releases which, and where. It knows nothing of
+//! what was read before.
+#![tactic(auto)]
+
+mod contexts;
+mod events;
+mod heads;
+mod kprobes;
+mod lines;
+mod lockdep;
+mod lttng;
+mod numbers;
+mod pieces;
+mod symbols;
+
+pub use contexts::{Context, Masked, Preemption};
+pub use events::{Acquired, Action, Call, Deed, Kind, MutexDeed, Reading, Told};
+pub use lines::told_of;
+pub use lttng::mutex_told;
+pub use symbols::{Symbol, symbol_of};
