@@ -1,5 +1,5 @@
 -- The command line.
-use Rattle.std.specs.Prelude.{ℕ, List, [], ◌∷◌, map, Option, Some, None, true, codes, if◌then◌else◌}
+use Rattle.std.specs.Prelude.{ℕ, List, [], ◌∷◌, map, Option, Some, None, true, false, option_map, codes, if◌then◌else◌}
 use Rattle.std.specs.Str.{bytes_eq}
 use Rattle.std.specs.Global.{Vec}
 use Rattle.clap.specs.Words.{App, Text, new_app, new_rule, with_rule}
@@ -7,8 +7,12 @@ use Rattle.clap.specs.declared.builder.action.ArgAction.TheVariants.{Set}
 use Rattle.wit_model.specs.declared.lines.View.TheVariants.{Reports, Graph, Locks, Circle}
 use Rattle.wit_command.specs.declared.command.Command.{Command}
 use Rattle.wit_command.specs.declared.command.Command.TheVariants.{Show, Migrate, Grade, Demo}
-use Rattle.wit_command.specs.declared.command.Command.TheVariants.{Import}
-use Rattle.wit_command.specs.declared.command.Source.TheVariants.{Plain}
+use Rattle.wit_command.specs.declared.command.Command.TheVariants.{Forecast, Import}
+use Rattle.wit_command.specs.declared.command.Choice.{Choice}
+use Rattle.wit_command.specs.declared.command.Choice.TheVariants.{Interrupts, Readers}
+use Rattle.wit_command.specs.declared.command.Encoding.{Encoding}
+use Rattle.wit_command.specs.declared.command.Source.{Source}
+use Rattle.wit_command.specs.declared.command.Source.TheVariants.{Ftrace, Lttng, Plain}
 
 -- the words' bytes
 abbrev pub bytes_of : List (Vec ℕ) → List (List ℕ)
@@ -22,26 +26,73 @@ command_named word =
     else if bytes_eq word (codes "locks") then Some (Show Locks)
     else if bytes_eq word (codes "circle") then Some (Show Circle)
     else if bytes_eq word (codes "migrate") then Some Migrate
+    else if bytes_eq word (codes "forecast") then Some Forecast
     else if bytes_eq word (codes "grade") then Some Grade
     else if bytes_eq word (codes "demo") then Some Demo
     else None
 
--- what two words ask for: an import, of a source
-abbrev pub import_named : List ℕ → List ℕ → Option Command
-import_named word source =
-    if bytes_eq word (codes "import") then
-    (if bytes_eq source (codes "plain") then Some (Import Plain) else None)
+-- an option of an import of ftrace
+abbrev pub choice_named : List ℕ → Option Choice
+choice_named word =
+    if bytes_eq word (codes "--irq") then Some (Interrupts true)
+    else if bytes_eq word (codes "--no-irq") then Some (Interrupts false)
+    else if bytes_eq word (codes "--readers") then Some (Readers true)
+    else if bytes_eq word (codes "--no-readers") then Some (Readers false)
     else None
+
+-- what it makes of an encoding
+abbrev pub with_choice : Encoding → Choice → Encoding
+with_choice e (Interrupts is) = record e { interrupts = is }
+with_choice e (Readers is) = record e { readers = is }
+
+abbrev pub with_chosen : Encoding → Option Choice → Option Encoding
+with_chosen e None = None
+with_chosen e (Some choice) = Some (with_choice e choice)
+
+abbrev pub with_option : Encoding → List ℕ → Option Encoding
+with_option e option = with_chosen e (choice_named option)
+
+-- what options make of it, one behind the other
+abbrev pub encoding_from : Option Encoding → List (List ℕ) → Option Encoding
+encoding_from None options = None
+encoding_from (Some e) [] = Some e
+encoding_from (Some e) (option ∷ options) = encoding_from (with_option e option) options
+
+abbrev pub encoding_by : Encoding → List (List ℕ) → Option Encoding
+encoding_by e options = encoding_from (Some e) options
+
+-- a source that has no options
+abbrev pub alone : Source → List (List ℕ) → Option Source
+alone source [] = Some source
+alone source (option ∷ options) = None
+
+-- of ftrace interrupts and readers are told, where no option says that they aren't
+abbrev pub ftrace_by : List (List ℕ) → Option Source
+ftrace_by options =
+    option_map Ftrace (encoding_by (record { interrupts = true; readers = true }) options)
+
+-- a source
+abbrev pub source_named : List ℕ → List (List ℕ) → Option Source
+source_named source options =
+    if bytes_eq source (codes "plain") then alone Plain options
+    else if bytes_eq source (codes "lttng") then alone Lttng options
+    else if bytes_eq source (codes "ftrace") then ftrace_by options
+    else None
+
+-- what words ask for: an import, of a source
+abbrev pub import_named : List ℕ → List ℕ → List (List ℕ) → Option Command
+import_named word source options =
+    if bytes_eq word (codes "import") then option_map Import (source_named source options) else None
 
 -- what one word asks for that stands alone
 abbrev pub asked_alone : List (List ℕ) → Option Command
 asked_alone (word ∷ []) = command_named word
 asked_alone _ = None
 
--- what the words behind the program's name ask for: one word that names it, or an import and its
--- source
+-- what the words behind the program's name ask for: one word that names it, or an import, its source
+-- and its options
 abbrev pub asked : List (List ℕ) → Option Command
-asked (word ∷ source ∷ []) = import_named word source
+asked (word ∷ source ∷ options) = import_named word source options
 asked words = asked_alone words
 
 -- the word behind the program's name, where it is the only one

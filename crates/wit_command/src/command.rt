@@ -2,11 +2,33 @@
 
 use wit_model::View;
 
+/// What an import of ftrace tells by locks.
+#[derive(Clone, Copy, Debug, PartialEq, Eq)]
+pub struct Encoding {
+    /// An interrupt is one.
+    pub interrupts: bool,
+    /// Recursive readers have one that is apart from that of writers.
+    pub readers: bool,
+}
+
+/// What an option says of an encoding.
+#[derive(Clone, Copy, Debug, PartialEq, Eq)]
+pub(crate) enum Choice {
+    /// Whether an interrupt is a lock.
+    Interrupts(bool),
+    /// Whether recursive readers have one of their own.
+    Readers(bool),
+}
+
 /// Who writes the lines that are imported.
 #[derive(Clone, Copy, Debug, PartialEq, Eq)]
 pub enum Source {
     /// `plain`: a script, a line for each event.
     Plain,
+    /// `ftrace`: the kernel.
+    Ftrace(Encoding),
+    /// `lttng`: babeltrace2, of LTTng's pthread wrapper.
+    Lttng,
 }
 
 /// What a command line asks for.
@@ -16,6 +38,8 @@ pub enum Command {
     Show(View),
     /// The trace on standard input, in the second version of the format.
     Migrate,
+    /// What is forecast of the reports of the trace on standard input.
+    Forecast,
     /// The grades of the facts on standard input.
     Grade,
     /// The lines on standard input, which such a source wrote, as a trace.

@@ -1,12 +1,14 @@
-//! The command line: exactly one word, which says what is asked for, or two that ask for an import.
+//! The command line: exactly one word, which says what is asked for, or words that ask for an import.
 
 ghost use Rattle.std.specs.Prelude.{◌≡◌, [], ◌∷◌, IfOk, IfErr, IfSome, IfNone, None, true, codes};
 ghost use Rattle.std.specs.Prelude.{map, option_map};
 ghost use Rattle.clap.specs.Words.{first_of, kind_of, matches_of, takes};
 ghost use Rattle.wit_command.specs.CommandLine.{asked, asked_alone, bytes_of, command_line};
-ghost use Rattle.wit_command.specs.CommandLine.{command_named, import_named, only_word, option_named};
+ghost use Rattle.wit_command.specs.CommandLine.{alone, choice_named, command_named, encoding_by};
+ghost use Rattle.wit_command.specs.CommandLine.{ftrace_by, import_named, with_choice};
+ghost use Rattle.wit_command.specs.CommandLine.{only_word, option_named, source_named, with_option};
 
-use crate::command::{Command, Source};
+use crate::command::{Choice, Command, Encoding, Source};
 use clap::error::ErrorKind;
 use clap::{Arg, ArgAction, Error};
 use std::alloc::{AllocError, Global};
@@ -15,8 +17,8 @@ use std::str;
 use wit_model::View;
 
 /// What these words ask for, which stand behind the program's name: `None` where they aren't
-/// exactly one word that says it, or `import` and a source. No option does, nor does a word for
-/// help.
+/// exactly one word that says it, or `import` and a source, behind which the options of an import of
+/// ftrace may stand. No other option does, nor does a word for help.
 ///
 /// # Errors
 /// Want of memory.
@@ -24,20 +26,117 @@ pub fn asked_command(alloc: Global, words: &[Vec<u8>]) -> Result<Option<Command>
     ensures { IfOk result (λ command. command ≡ asked (bytes_of words.now)) }
 {
     match words {
-        [word, source] => Ok(named_import(word.as_slice(), source.as_slice())),
+        [word, source, options @ ..] => {
+            Ok(named_import(word.as_slice(), source.as_slice(), options))
+        }
         _ => asked_alone(alloc, words),
     }
 }
 
-fn named_import(word: &[u8], source: &[u8]) -> Option<Command>
-    ensures { result ≡ import_named word.now source.now }
+fn named_import(word: &[u8], source: &[u8], options: &[Vec<u8>]) -> Option<Command>
+    ensures { result ≡ import_named word.now source.now (bytes_of options.now) }
 {
     if word != b"import".as_slice() {
         return None;
     }
-    match source {
-        b"plain" => Some(Command::Import(Source::Plain)),
+    match named_source(source, options) {
+        Some(source) => Some(Command::Import(source)),
+        None => None,
+    }
+}
+
+fn named_source(source: &[u8], options: &[Vec<u8>]) -> Option<Source>
+    ensures { result ≡ source_named source.now (bytes_of options.now) }
+{
+    if source == b"plain".as_slice() {
+        alone(Source::Plain, options)
+    } else if source == b"lttng".as_slice() {
+        alone(Source::Lttng, options)
+    } else if source == b"ftrace".as_slice() {
+        ftrace(options)
+    } else {
+        None
+    }
+}
+
+// That of ftrace, with its options.
+fn ftrace(options: &[Vec<u8>]) -> Option<Source>
+    ensures { result ≡ ftrace_by (bytes_of options.now) }
+{
+    let whole = Encoding {
+        interrupts: true,
+        readers: true,
+    };
+    match encoding(whole, options) {
+        Some(encoding) => Some(Source::Ftrace(encoding)),
+        None => None,
+    }
+}
+
+// A source that has no options.
+fn alone(source: Source, options: &[Vec<u8>]) -> Option<Source>
+    ensures { result ≡ alone source (bytes_of options.now) }
+{
+    match options {
+        [] => Some(source),
         _ => None,
+    }
+}
+
+// What the options make of this; the last one of several counts.
+fn encoding(before: Encoding, options: &[Vec<u8>]) -> Option<Encoding>
+    ensures { result ≡ encoding_by before (bytes_of options.now) }
+{
+    match options {
+        [] => Some(before),
+        [option, others @ ..] => match with_option(before, option.as_slice()) {
+            Some(next) => encoding(next, others),
+            None => None,
+        },
+    }
+}
+
+fn with_option(before: Encoding, option: &[u8]) -> Option<Encoding>
+    ensures { result ≡ with_option before option.now }
+{
+    match choice_of(option) {
+        Some(choice) => Some(with_choice(before, choice)),
+        None => None,
+    }
+}
+
+fn with_choice(before: Encoding, choice: Choice) -> Encoding
+    ensures { result ≡ with_choice before choice }
+{
+    let Encoding {
+        interrupts,
+        readers,
+    } = before;
+    match choice {
+        Choice::Interrupts(interrupts) => Encoding {
+            interrupts,
+            readers,
+        },
+        Choice::Readers(readers) => Encoding {
+            interrupts,
+            readers,
+        },
+    }
+}
+
+fn choice_of(word: &[u8]) -> Option<Choice>
+    ensures { result ≡ choice_named word.now }
+{
+    if word == b"--irq".as_slice() {
+        Some(Choice::Interrupts(true))
+    } else if word == b"--no-irq".as_slice() {
+        Some(Choice::Interrupts(false))
+    } else if word == b"--readers".as_slice() {
+        Some(Choice::Readers(true))
+    } else if word == b"--no-readers".as_slice() {
+        Some(Choice::Readers(false))
+    } else {
+        None
     }
 }
 
@@ -105,6 +204,7 @@ fn named_command(word: &str) -> Option<Command>
         "locks" => Some(Command::Show(View::Locks)),
         "circle" => Some(Command::Show(View::Circle)),
         "migrate" => Some(Command::Migrate),
+        "forecast" => Some(Command::Forecast),
         "grade" => Some(Command::Grade),
         "demo" => Some(Command::Demo),
         _ => None,

@@ -10,6 +10,9 @@ use Rattle.wit_migrate.specs.Again.{WritesTheSame}
 use Rattle.wit_migrate.specs.Migrates.{Migrates, MigratesFrom}
 use Rattle.wit_grades.specs.Outputs.{Grades, GradesFrom, nothing_told}
 use Rattle.wit_import.specs.Outputs.{Imports, ImportsFrom, nothing_seen}
+use Rattle.wit_kernel.specs.Outputs.{Imports as ImportsTraced}
+use Rattle.wit_command.specs.declared.command.Source.{Source}
+use Rattle.wit_command.specs.declared.command.Source.TheVariants.{Ftrace, Lttng, Plain}
 use Rattle.wit_trace.specs.Replays.{ShowsTrace, ShowsFrom}
 use Rattle.wit_trace.specs.Status.{exit_status}
 use Rattle.wit_stream.specs.Stream.{WritesOutput, WritesFront, WritesLines}
@@ -91,29 +94,56 @@ pub record TellsGrades (read written_old written_new : Option (List ℕ)) : Type
   pub left : Option (List ℕ)
   pub told : WritesLines GradesFrom nothing_told read left written_old written_new
 
+-- what is written of an input: the one trace of a script's lines, and of a tracer's that of some events
+abbrev pub ImportsBy : Source → List ℕ → List ℕ → Summary → Type 0
+ImportsBy Plain = Imports
+ImportsBy (Ftrace encoding) = ImportsTraced
+ImportsBy Lttng = ImportsTraced
+
 -- the trace that the input makes was written, and this is its status, as where nothing is reported
-pub record IsImportedWhole (read written_old written_new : Option (List ℕ))
+pub record IsImportedWhole (source : Source) (read written_old written_new : Option (List ℕ))
     (ended : ℕ) : Type 0 where
   pub summary : Summary
-  pub written : WritesOutput Imports read written_old written_new summary
+  pub written : WritesOutput (ImportsBy source) read written_old written_new summary
   pub status : ended ≡ exit_status Graph (Ok summary)
 
 -- and that is what is left to do
-abbrev pub IsImportedAndExits : Option (List ℕ) → Option (List ℕ) → Option (List ℕ) → Ended → Type 0
-IsImportedAndExits read written_old written_new (Exits status) =
-    IsImportedWhole read written_old written_new status
-IsImportedAndExits read written_old written_new ShowsThreads = ⊥
+abbrev pub IsImportedAndExits : Source → Option (List ℕ) → Option (List ℕ) → Option (List ℕ)
+    → Ended → Type 0
+IsImportedAndExits source read written_old written_new (Exits status) =
+    IsImportedWhole source read written_old written_new status
+IsImportedAndExits source read written_old written_new ShowsThreads = ⊥
 
 -- a beginning was written of the trace that the input makes, which may be nothing
-abbrev pub IsImportCut : Option (List ℕ) → Option (List ℕ) → Option (List ℕ) → Type 0
-IsImportCut read written_old written_new =
-    Keeps written_old written_new ⊎ WritesFront Imports read written_old written_new
+abbrev pub IsImportCut : Source → Option (List ℕ) → Option (List ℕ) → Option (List ℕ) → Type 0
+IsImportCut source read written_old written_new =
+    Keeps written_old written_new ⊎ WritesFront (ImportsBy source) read written_old written_new
 
 -- what every whole line that was taken from the input makes was written, no less, whatever is left
 -- of it
 pub record TellsImported (read written_old written_new : Option (List ℕ)) : Type 0 where
   pub left : Option (List ℕ)
   pub told : WritesLines ImportsFrom nothing_seen read left written_old written_new
+
+-- an output of the input was written, and this is its status, as where the view shows that
+pub record IsWrittenWhole (output : List ℕ → List ℕ → Summary → Type 0) (view : View)
+    (read written_old written_new : Option (List ℕ)) (ended : ℕ) : Type 0 where
+  pub summary : Summary
+  pub written : WritesOutput output read written_old written_new summary
+  pub status : ended ≡ exit_status view (Ok summary)
+
+-- and that is what is left to do
+abbrev pub IsWrittenAndExits : (List ℕ → List ℕ → Summary → Type 0) → View → Option (List ℕ)
+    → Option (List ℕ) → Option (List ℕ) → Ended → Type 0
+IsWrittenAndExits output view read written_old written_new (Exits status) =
+    IsWrittenWhole output view read written_old written_new status
+IsWrittenAndExits output view read written_old written_new ShowsThreads = ⊥
+
+-- a beginning of an output of the input was written, which may be nothing
+abbrev pub IsOutputCut : (List ℕ → List ℕ → Summary → Type 0) → Option (List ℕ) → Option (List ℕ)
+    → Option (List ℕ) → Type 0
+IsOutputCut output read written_old written_new =
+    Keeps written_old written_new ⊎ WritesFront output read written_old written_new
 
 -- the demonstration was told, or a call of it was refused, and this is its status, as that of a
 -- replay which reports what was reported

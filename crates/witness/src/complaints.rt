@@ -1,8 +1,10 @@
-//! What goes to standard error: how the program is used, and why a replay failed.
+//! What goes to standard error: how the program is used, why a replay failed, and what an import counts.
 
 ghost use Rattle.std.specs.Prelude.{◌≡◌};
 
 use std::io::Write;
+use wit_command::Source;
+use wit_import::Counts;
 use wit_stream::ReplayError;
 use wit_trace::FAILED;
 
@@ -10,24 +12,28 @@ use wit_trace::FAILED;
 pub const BAD_USAGE: u8 = 2;
 
 /// How the program is used.
-pub const USAGE: &str = "usage: witness replay|graph|locks|circle|migrate < TRACE
+pub const USAGE: &str = "usage: witness replay|graph|locks|circle|migrate|forecast < TRACE
        witness grade < FACTS
-       witness import plain < LINES
+       witness import plain|lttng < LINES
+       witness import ftrace [--no-irq] [--no-readers] < LINES
        witness demo
 
 Reads a trace of lock calls from standard input, and writes
-  replay  the text of each report, failed assertion and warning as it comes
-  graph   the direct orders between lock types, after the whole trace
-  locks   the locks that the seats hold, after the whole trace
-  circle  a circle of seats that wait for one another, or that there is none, after the whole trace
-  migrate the trace in the second version of the format, in which it tells each step of the locks themselves
+  replay   the text of each report, failed assertion and warning as it comes
+  graph    the direct orders between lock types, after the whole trace
+  locks    the locks that the seats hold, after the whole trace
+  circle   a circle of seats that wait for one another, or that there is none, after the whole trace
+  migrate  the trace in the second version of the format, in which it tells each step of the locks themselves
+  forecast how threads could have come to hang, of each report of such a trace: its lines in another sequence
 With grade it reads facts in place of a trace: which lock a thread asked for while it held another. At each line that asks
 for it, it writes whether threads can wait for one another so, and if not, what keeps them from it.
-With import plain it reads lines in which a script tells how threads acquire and release locks, and writes a trace.
+With import it reads lines that tell how threads acquire and release locks, and writes a trace: of a script (plain), of the
+kernel's ftrace, or of LTTng's pthread wrapper. With --no-irq an interrupt stands for no lock, with --no-readers recursive
+readers are told as others are. What is left out of the trace is counted on standard error.
 With demo it reads nothing: threads take two locks in one order, and then one takes them in the other, which is reported.
-Status: 0 nothing was reported, 1 something was reported (replay, demo) or there is a circle (circle), 2 bad usage,
-3 a bad line (the last line of the output says which and why), 4 no memory, or reading or writing failed.
-The format of a trace: docs/man/witness-trace.5; of facts and grades: docs/man/witness-grade.5; of lines: docs/man/witness-import.5
+Status: 0 nothing was reported, 1 something was reported (replay, demo), there is a circle (circle) or a schedule (forecast),
+2 bad usage, 3 a bad line (the last line of the output says which and why), 4 no memory, or reading or writing failed.
+The format of a trace: docs/man/witness-trace.5; of facts and grades: docs/man/witness-grade.5; of lines: docs/man/witness-import.1
 ";
 
 /// Says how the program is used, and gives the status of bad usage. The status alone tells it where
@@ -46,4 +52,32 @@ pub fn fail<W: Write>(complaints: &mut W, error: &ReplayError) -> u8
 {
     let _ = writeln!(complaints, "witness: {error}");
     FAILED
+}
+
+/// Tells what an import counts, where it isn't 0.
+pub fn tell_counts<W: Write>(notes: &mut W, source: Source, counts: &Counts) {
+    let (left_out, unheld) = (counts.left_out, counts.unheld);
+    if left_out > 0 {
+        let _ = writeln!(
+            notes,
+            "witness: left out for want of room for their types: {left_out}"
+        );
+    }
+    if unheld > 0 {
+        let _ = writeln!(
+            notes,
+            "witness: releases of what nobody was seen to hold: {unheld}"
+        );
+    }
+    if counts.lost > 0 {
+        let lost = counts.lost;
+        let _ = writeln!(
+            notes,
+            "witness: events are missing, at so many places: {lost}"
+        );
+    }
+    if counts.passed > 0 && source != Source::Plain {
+        let passed = counts.passed;
+        let _ = writeln!(notes, "witness: lines that tell nothing of locks: {passed}");
+    }
 }

@@ -2,30 +2,36 @@
 
 ghost use Rattle.std.specs.Prelude.{◌≡◌, ◌≢◌, ◌⊎◌, Ok, Err, IfOk, OnErr, None, Some};
 ghost use Rattle.std.specs.Io.KnownBytes.{Keeps};
+ghost use Rattle.wit_forecast.specs.Forecasts.{Forecasts};
 ghost use Rattle.wit_grades.specs.Outputs.{Grades};
-ghost use Rattle.wit_import.specs.Outputs.{Imports};
 ghost use Rattle.wit_migrate.specs.Again.{WritesTheSame};
 ghost use Rattle.wit_migrate.specs.Migrates.{Migrates};
 ghost use Rattle.wit_trace.specs.Replays.{ShowsTrace};
-ghost use Rattle.wit_stream.specs.Stream.{WritesOutput};
+ghost use Rattle.wit_stream.specs.Stream.{WritesFront, WritesOutput};
 ghost use Rattle.wit_command.specs.CommandLine.{asked, bytes_of};
 ghost use Rattle.wit_stream.specs.declared.summary.ReplayError.TheVariants as ReplayError;
 ghost use Rattle.wit_stream.specs.declared.summary.ReplayError.TheVariants.{Memory};
-ghost use Rattle.wit_command.specs.declared.command.Command.TheVariants.{Demo, Grade, Import};
+ghost use Rattle.wit_command.specs.declared.command.Command.TheVariants.{Demo, Forecast, Grade};
+ghost use Rattle.wit_command.specs.declared.command.Command.TheVariants.{Import};
 ghost use Rattle.wit_command.specs.declared.command.Command.TheVariants.{Migrate, Show};
+ghost use Rattle.wit_command.specs.declared.command.Source.{Source};
 ghost use Rattle.wit_command.specs.declared.command.Source.TheVariants.{Plain};
 ghost use Rattle.witness.specs.declared.program.Ended.TheVariants.{Exits, ShowsThreads};
 ghost use Rattle.witness.specs.Program.{IsCutShort, IsGradedAndExits, IsGradingCut};
-ghost use Rattle.witness.specs.Program.{IsImportedAndExits, IsImportCut, IsMigratedAndExits};
-ghost use Rattle.witness.specs.Program.{IsMigrationCut, IsShownAndExits, TellsGrades};
+ghost use Rattle.witness.specs.Program.{ImportsBy, IsImportedAndExits, IsImportCut, IsMigratedAndExits};
+ghost use Rattle.witness.specs.Program.{IsMigrationCut, IsOutputCut, IsShownAndExits};
+ghost use Rattle.witness.specs.Program.{IsWrittenAndExits, TellsGrades};
+ghost use Rattle.wit_model.specs.declared.lines.View.TheVariants.{Circle};
 ghost use Rattle.witness.specs.Program.{TellsImported, TellsLines, TellsMovedLines};
 
-use crate::complaints::refuse;
+use crate::complaints::{refuse, tell_counts};
 use std::alloc::Global;
-use std::io::{BufReader, Read, Write};
+use std::io::{BufRead, BufReader, Read, Write};
 use wit_command::{Command, Source, asked_command};
+use wit_forecast::forecast;
 use wit_grades::grade_facts;
-use wit_import::import;
+use wit_import::{Counts, import};
+use wit_kernel::{Settings, Tracer, import_traced};
 use wit_migrate::migrate;
 use wit_model::View;
 use wit_stream::{ReplayError, Summary};
@@ -45,21 +51,24 @@ pub enum Ended {
 }
 
 /// Runs the program on the words behind its name, up to its exit status: where they ask for a view
-/// of the input, its migration, its grades or its import, that of the replay, the migration, the
-/// grading or the import; where they ask for nothing, 2. The demonstration is left to the caller.
+/// of the input, its migration, its forecast, its grades or its import, that of the replay, the
+/// migration, the forecast, the grading or the import; where they ask for nothing, 2. The demonstration
+/// is left to the caller.
 ///
 /// Only the input is read through a buffer: what is written is in the output when this returns.
-/// What goes to `complaints` is how the program is used, at status 2, and nothing else.
+/// What goes to `complaints` is how the program is used, at status 2, and nothing else. What an import
+/// counts goes to `notes`.
 ///
 /// # Errors
-/// Those of `replay`, `migrate`, `grade_facts` and `import`; and `Memory` where memory runs out before
-/// the first line is read. What was written is then a beginning of the output; where the reader failed it is the text
-/// of every whole line that was taken.
-pub fn run<R: Read + Drop, W: Write, E: Write>(
+/// Those of `replay`, `migrate`, `forecast`, `grade_facts`, `import` and `import_traced`; and `Memory` where
+/// memory runs out before the first line is read. What was written is then a beginning of the output; where
+/// the reader failed it is the text of every whole line that was taken.
+pub fn run<R: Read + Drop, W: Write, N: Write, E: Write>(
     alloc: Global,
     words: &[Vec<u8>],
     input: R,
     output: &mut W,
+    notes: &mut N,
     complaints: &mut E,
 ) -> Result<Ended, ReplayError>
     ensures usage { asked (bytes_of words.now) ≡ None → (result ≡ Ok (Exits 2))
@@ -88,6 +97,12 @@ pub fn run<R: Read + Drop, W: Write, E: Write>(
     ensures migration_told { asked (bytes_of words.now) ≡ Some Migrate
         → result ≡ Err ReplayError.Read
         → TellsMovedLines (R.remaining input) (W.contents output.old) (W.contents output.new) }
+    ensures forecast { asked (bytes_of words.now) ≡ Some Forecast
+        → IfOk result (IsWrittenAndExits Forecasts Circle (R.remaining input)
+        (W.contents output.old) (W.contents output.new)) }
+    ensures forecast_cut { asked (bytes_of words.now) ≡ Some Forecast
+        → OnErr result (IsOutputCut Forecasts (R.remaining input) (W.contents output.old)
+        (W.contents output.new)) }
     ensures graded { asked (bytes_of words.now) ≡ Some Grade
         → IfOk result (IsGradedAndExits (R.remaining input) (W.contents output.old)
         (W.contents output.new)) }
@@ -97,11 +112,11 @@ pub fn run<R: Read + Drop, W: Write, E: Write>(
     ensures grades_told { asked (bytes_of words.now) ≡ Some Grade
         → result ≡ Err ReplayError.Read
         → TellsGrades (R.remaining input) (W.contents output.old) (W.contents output.new) }
-    ensures imported { asked (bytes_of words.now) ≡ Some (Import Plain)
-        → IfOk result (IsImportedAndExits (R.remaining input) (W.contents output.old)
+    ensures imported { (source : Source) → asked (bytes_of words.now) ≡ Some (Import source)
+        → IfOk result (IsImportedAndExits source (R.remaining input) (W.contents output.old)
         (W.contents output.new)) }
-    ensures import_cut { asked (bytes_of words.now) ≡ Some (Import Plain)
-        → OnErr result (IsImportCut (R.remaining input) (W.contents output.old)
+    ensures import_cut { (source : Source) → asked (bytes_of words.now) ≡ Some (Import source)
+        → OnErr result (IsImportCut source (R.remaining input) (W.contents output.old)
         (W.contents output.new)) }
     ensures import_told { asked (bytes_of words.now) ≡ Some (Import Plain)
         → result ≡ Err ReplayError.Read
@@ -112,8 +127,9 @@ pub fn run<R: Read + Drop, W: Write, E: Write>(
     match asked_command(alloc, words) {
         Ok(Some(Command::Show(view))) => show(alloc, view, input, output),
         Ok(Some(Command::Migrate)) => move_on(alloc, input, output),
+        Ok(Some(Command::Forecast)) => forecast_trace(alloc, input, output),
         Ok(Some(Command::Grade)) => grade(alloc, input, output),
-        Ok(Some(Command::Import(Source::Plain))) => import_lines(alloc, input, output),
+        Ok(Some(Command::Import(source))) => import_lines(alloc, source, input, output, notes),
         Ok(Some(Command::Demo)) => Ok(Ended::ShowsThreads),
         Ok(None) => Ok(Ended::Exits(refuse(complaints))),
         Err(error) => Err(ReplayError::from(error)),
@@ -203,6 +219,41 @@ fn migrate_through_buffer<R: Read + Drop, W: Write>(
     }
 }
 
+// Forecasts of the input, and says with which status to exit.
+fn forecast_trace<R: Read + Drop, W: Write>(
+    alloc: Global,
+    input: R,
+    output: &mut W,
+) -> Result<Ended, ReplayError>
+    ensures forecast { IfOk result (IsWrittenAndExits Forecasts Circle
+        (R.remaining input) (W.contents output.old) (W.contents output.new)) }
+    ensures cut_short { OnErr result (IsOutputCut Forecasts
+        (R.remaining input) (W.contents output.old) (W.contents output.new)) }
+{
+    let forecasts = forecast_through_buffer(alloc, input, output);
+    // A schedule ends with a circle.
+    let status = status_of(View::Circle, &forecasts);
+    let _summary = forecasts?;
+    Ok(Ended::Exits(status))
+}
+
+// Forecasts of the input, which is read through a buffer.
+fn forecast_through_buffer<R: Read + Drop, W: Write>(
+    alloc: Global,
+    input: R,
+    output: &mut W,
+) -> Result<Summary, ReplayError>
+    ensures ok { IfOk result (WritesOutput Forecasts
+        (R.remaining input) (W.contents output.old) (W.contents output.new)) }
+    ensures err { OnErr result (IsOutputCut Forecasts
+        (R.remaining input) (W.contents output.old) (W.contents output.new)) }
+{
+    match BufReader::with_capacity(alloc, READ_AHEAD, input) {
+        Ok(mut reader) => forecast(alloc, &mut reader, output),
+        Err(_) => Err(ReplayError::Memory),
+    }
+}
+
 // Grades the facts of the input, and says with which status to exit.
 fn grade<R: Read + Drop, W: Write>(
     alloc: Global,
@@ -243,40 +294,80 @@ fn grade_through_buffer<R: Read + Drop, W: Write>(
 }
 
 // Imports the lines of the input, and says with which status to exit.
-fn import_lines<R: Read + Drop, W: Write>(
+fn import_lines<R: Read + Drop, W: Write, N: Write>(
     alloc: Global,
+    source: Source,
     input: R,
     output: &mut W,
+    notes: &mut N,
 ) -> Result<Ended, ReplayError>
-    ensures imported { IfOk result
-        (IsImportedAndExits (R.remaining input) (W.contents output.old) (W.contents output.new)) }
+    ensures imported { IfOk result (IsImportedAndExits source
+        (R.remaining input) (W.contents output.old) (W.contents output.new)) }
     ensures cut_short { OnErr result
-        (IsImportCut (R.remaining input) (W.contents output.old) (W.contents output.new)) }
-    ensures told { result ≡ Err ReplayError.Read → TellsImported
+        (IsImportCut source (R.remaining input) (W.contents output.old) (W.contents output.new)) }
+    ensures told { source ≡ Plain → result ≡ Err ReplayError.Read → TellsImported
         (R.remaining input) (W.contents output.old) (W.contents output.new) }
 {
-    let imported = import_through_buffer(alloc, input, output);
+    let mut counts = Counts::default();
+    let imported = import_through_buffer(alloc, source, input, output, &mut counts);
     // An import reports nothing, as a graph.
     let status = status_of(View::Graph, &imported);
     let _summary = imported?;
+    tell_counts(notes, source, &counts);
     Ok(Ended::Exits(status))
 }
 
 // Imports the lines of the input, which is read through a buffer.
 fn import_through_buffer<R: Read + Drop, W: Write>(
     alloc: Global,
+    source: Source,
     input: R,
     output: &mut W,
+    counts: &mut Counts,
 ) -> Result<Summary, ReplayError>
-    ensures ok { IfOk result (WritesOutput Imports
+    ensures ok { IfOk result (WritesOutput (ImportsBy source)
         (R.remaining input) (W.contents output.old) (W.contents output.new)) }
     ensures err { OnErr result
-        (IsImportCut (R.remaining input) (W.contents output.old) (W.contents output.new)) }
-    ensures told { result ≡ Err ReplayError.Read → TellsImported
+        (IsImportCut source (R.remaining input) (W.contents output.old) (W.contents output.new)) }
+    ensures told { source ≡ Plain → result ≡ Err ReplayError.Read → TellsImported
         (R.remaining input) (W.contents output.old) (W.contents output.new) }
 {
     match BufReader::with_capacity(alloc, READ_AHEAD, input) {
-        Ok(mut reader) => import(alloc, &mut reader, output),
+        Ok(mut reader) => import_by(alloc, source, &mut reader, output, counts),
         Err(_) => Err(ReplayError::Memory),
+    }
+}
+
+// Imports the lines of the reader, by who wrote them.
+fn import_by<R: BufRead, W: Write>(
+    alloc: Global,
+    source: Source,
+    reader: &mut R,
+    output: &mut W,
+    counts: &mut Counts,
+) -> Result<Summary, ReplayError>
+    ensures ok { IfOk result (WritesOutput (ImportsBy source)
+        (R.remaining reader.old) (W.contents output.old) (W.contents output.new)) }
+    ensures err { OnErr result (WritesFront (ImportsBy source)
+        (R.remaining reader.old) (W.contents output.old) (W.contents output.new)) }
+    ensures told { source ≡ Plain → result ≡ Err ReplayError.Read → TellsImported
+        (R.remaining reader.old) (W.contents output.old) (W.contents output.new) }
+{
+    match source {
+        Source::Plain => import(alloc, reader, output, counts),
+        Source::Ftrace(encoding) => {
+            let settings = Settings {
+                interrupts: encoding.interrupts,
+                readers: encoding.readers,
+            };
+            import_traced(alloc, Tracer::Ftrace, settings, reader, output, counts)
+        }
+        Source::Lttng => {
+            let settings = Settings {
+                interrupts: false,
+                readers: false,
+            };
+            import_traced(alloc, Tracer::Lttng, settings, reader, output, counts)
+        }
     }
 }
