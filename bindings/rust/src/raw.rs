@@ -1,4 +1,34 @@
-//! Macros for the raw locks of `lock_api`.
+//! Macros for the raw locks of `lock_api`, and for those of `parking_lot`.
+
+/// Makes a module with parking_lot's `Mutex` and `RwLock`, and their guards, that tell what is done with them. The program has
+/// `parking_lot` among its dependencies, with its feature `arc_lock` or without; this crate has none.
+///
+/// ```ignore
+/// witness::parking_lot! { pub mod locks; }
+/// use locks::{Mutex, RwLock};
+/// ```
+#[macro_export]
+macro_rules! parking_lot {
+    ($(#[$meta:meta])* $vis:vis mod $name:ident;) => {
+        $(#[$meta])*
+        #[allow(dead_code)]
+        $vis mod $name {
+            $crate::raw_mutex! {
+                /// The raw mutex.
+                pub struct RawMutex(::parking_lot::RawMutex): ::parking_lot::lock_api::RawMutex;
+            }
+            $crate::raw_rwlock! {
+                /// The raw lock for readers and writers.
+                pub struct RawRwLock(::parking_lot::RawRwLock): ::parking_lot::lock_api::RawRwLock;
+            }
+            pub type Mutex<T> = ::parking_lot::lock_api::Mutex<RawMutex, T>;
+            pub type MutexGuard<'a, T> = ::parking_lot::lock_api::MutexGuard<'a, RawMutex, T>;
+            pub type RwLock<T> = ::parking_lot::lock_api::RwLock<RawRwLock, T>;
+            pub type RwLockReadGuard<'a, T> = ::parking_lot::lock_api::RwLockReadGuard<'a, RawRwLock, T>;
+            pub type RwLockWriteGuard<'a, T> = ::parking_lot::lock_api::RwLockWriteGuard<'a, RawRwLock, T>;
+        }
+    };
+}
 
 /// Makes a type of a raw mutex, such as parking_lot's, that tells what is done with it. The trait is lock_api's, which
 /// this crate doesn't depend on; so `lock_api::Mutex<Traced, T>` is a mutex with that one's signatures.

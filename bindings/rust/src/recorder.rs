@@ -65,8 +65,12 @@ impl Recorder {
         }
     }
 
-    /// The place's number, by the address that its name has in the program.
+    /// The place's number, by the address that its name has in the program. Of a place in `lock_api`, which doesn't pass its
+    /// caller's on, it is 0: then the recorder goes by the addresses of the callers.
     fn number_of(&self, place: &'static Location<'static>) -> c_uint {
+        if place.file().contains("/lock_api-") || place.file().contains("lock_api/src/") {
+            return 0;
+        }
         static NUMBERS: [AtomicU64; KNOWN] = [const { AtomicU64::new(0) }; KNOWN];
         let address = std::ptr::from_ref(place) as u64;
         let known = &NUMBERS[(address.wrapping_mul(0x9e37_79b9_7f4a_7c15) >> 32) as usize % KNOWN];
