@@ -9,6 +9,7 @@
 #include "judged.h"
 #include "names.h"
 #include "report.h"
+#include "told.h"
 
 #include <stdlib.h>
 #include <string.h>
@@ -75,10 +76,12 @@ bool judge_sees_circle(const struct request *request)
 
 static size_t put_waits(char *to, size_t room, struct wit_place *place, uint16_t seat)
 {
-    char at[FILE_ROOM];
-    name_file(at, asked[seat].place);
-    int length = snprintf(to, room, "seat %u, thread %ld, waits%s @ %s:%u and holds:\n", seat, asked[seat].thread,
-        asked[seat].for_a_time ? " with a time limit" : "", at, place_line(asked[seat].place));
+    char file[FILE_ROOM], place_there[FILE_ROOM + 16], where[FILE_ROOM + 32];
+    name_file(file, asked[seat].place);
+    snprintf(place_there, sizeof place_there, "%s:%u", file, place_line(asked[seat].place));
+    told_where(where, sizeof where, place_there);
+    int length = snprintf(to, room, "seat %u, thread %ld, waits%s %s and holds:\n", seat, asked[seat].thread,
+        asked[seat].for_a_time ? " with a time limit" : "", where);
     if (length < 0 || (size_t)length >= room)
         return 0;
     int64_t held = wit_locks_text(place, seat, to + length, room - (size_t)length);

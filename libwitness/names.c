@@ -1,8 +1,7 @@
 /*
  * The names under which the verifier knows types, locks and places: the variable that a lock stands in, else the
- * functions that made it, and OBJECT+OFFSET(FUNCTION) for a place. They are those that `record` tells of a program
- * without debug information, and that its file of --ignore may have. What the program names by itself has that name: a
- * type, and a place by its file and line.
+ * functions that made it, and OBJECT+0xOFFSET(FUNCTION+0xWITHIN) for a place (told.h tells it otherwise). The file of
+ * --ignore of `record` may have them. What the program names by itself has that name: a type, and a place by its file and line.
  */
 #include "label.h"
 #include "names.h"
@@ -100,8 +99,8 @@ static void add_name(char *to, size_t room, const char *name)
 static void add_variable(char *to, size_t room, uint32_t object, uintptr_t address)
 {
     uintptr_t from = address;
-    uint64_t size;
-    const char *name = object_symbol(object, address, false, &from, &size), *file = object_symbol_file(object, address);
+    const char *name = "", *file = object_symbol_file(object, address);
+    object_symbol(object, address, false, &from, NULL, &name);
     if (!*name) {
         add(to, room, object_name(object));
         add_offset(to, room, object_offset(object, address));
@@ -170,6 +169,8 @@ void name_place(char to[FILE_ROOM], uint32_t number)
     if (*place->name) {
         add(to, FILE_ROOM, "(");
         add_name(to, FILE_ROOM, place->name);
+        if (!place->file && place->within > 0)
+            add_offset(to, FILE_ROOM, place->within - 1);
         add(to, FILE_ROOM, ")");
     }
     clean(to, '!');

@@ -8,6 +8,7 @@
 
 #include "judge.h"
 #include "names.h"
+#include "told.h"
 #include "verifier.h"
 
 #include <errno.h>
@@ -113,6 +114,8 @@ static void find_places(struct report *report)
     place_in(report->text, has_older ? "\n 2nd " : "\n 1st ", report->held);
     if (!has_older)
         place_in(report->text, "\n 2nd ", report->asked);
+    told_place(report->held, sizeof report->held);
+    told_place(report->asked, sizeof report->asked);
     report->shown.text = report->text;
     report->shown.held = report->held;
     report->shown.asked = report->asked;
@@ -136,6 +139,7 @@ static size_t callers_put(char *to, size_t room, struct caller caller)
         if (!is_place_by_name(found[i]) && !is_told(place_function(found[i])))
             continue;
         name_place(place, found[i]);
+        told_place(place, sizeof place);
         length += snprintf(to + length, room - (size_t)length, " %s\n", place);
     }
     return (size_t)length;
@@ -186,8 +190,10 @@ static void tell_text(void *argument)
 {
     const struct telling *it = argument;
     struct report *report = it->report;
-    size_t length = report->length;
     find_places(report);
+    size_t length = told_text(report->text, report->length);
+    report->length = length;
+    report->text[length] = '\0';
     length += callers_put(report->text + length, CALLERS_ROOM, it->caller);
     tell(report->text, length);
     report->text[report->length] = '\0';

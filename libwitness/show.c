@@ -4,6 +4,7 @@
 #include "libwitness.h"
 #include "names.h"
 #include "report.h"
+#include "told.h"
 
 #include <errno.h>
 #include <string.h>
@@ -48,7 +49,7 @@ static void put_text_of(struct shown *shown, struct wit_place *place, int64_t (*
     if (length <= 0 || !has_room(shown, (size_t)length))
         return;
     if (text(place, shown->text + shown->length, (size_t)length) == length)
-        shown->length += (size_t)length;
+        shown->length += told_text(shown->text + shown->length, (size_t)length);
 }
 
 /* Mutexes say who holds them; of other locks only the verifier's text tells. */

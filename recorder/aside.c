@@ -53,18 +53,12 @@ bool is_aside(uintptr_t stack)
 /* Below it lies a page that nobody may touch. */
 static bool is_made(struct own_stack *stack)
 {
-    if (stack->from)
-        return true;
-    char *from = mmap(NULL, PAGE_BYTES + STACK_BYTES, PROT_NONE, MAP_PRIVATE | MAP_ANONYMOUS | MAP_NORESERVE, -1, 0);
-    if (from == MAP_FAILED)
-        return false;
-    if (mprotect(from + PAGE_BYTES, STACK_BYTES, PROT_READ | PROT_WRITE) != 0) {
-        munmap(from, PAGE_BYTES + STACK_BYTES);
-        return false;
-    }
-    own_memory(from, PAGE_BYTES + STACK_BYTES);
-    stack->from = from + PAGE_BYTES;
-    return true;
+    char *from = stack->from ? NULL : table(PAGE_BYTES + STACK_BYTES);
+    if (from && mprotect(from, PAGE_BYTES, PROT_NONE) == 0)
+        stack->from = from + PAGE_BYTES;
+    else if (from)
+        table_goes(from, PAGE_BYTES + STACK_BYTES);
+    return stack->from != NULL;
 }
 
 /* NULL where there is none left, or no memory for it. */
@@ -101,28 +95,24 @@ void change_signals(int how, uint64_t wanted, uint64_t *before)
     syscall(SYS_rt_sigprocmask, how, &wanted, before, sizeof wanted);
 }
 
-static void call_undisturbed(void (*function)(void *), void *argument)
-{
-    uint64_t before;
-    change_signals(SIG_SETMASK, atomic_load(&has_small_stacks) ? UINT64_MAX : ~FAULTS, &before);
-    self.keeps_signals = true;
-    call_elsewhere(function, argument);
-    self.keeps_signals = false;
-    change_signals(SIG_SETMASK, before, NULL);
-}
-
 void aside(void (*function)(void *), void *argument)
 {
     int before = errno, cancellation;
+    uint64_t signals;
     if (is_aside((uintptr_t)__builtin_frame_address(0))) {
         function(argument);
         return;
     }
     pthread_setcancelstate(PTHREAD_CANCEL_DISABLE, &cancellation);
-    if (atomic_load_explicit(&has_handlers, memory_order_relaxed) && !self.keeps_signals)
-        call_undisturbed(function, argument);
-    else
-        call_elsewhere(function, argument);
+    bool disturbs = atomic_load_explicit(&has_handlers, memory_order_relaxed) && !self.keeps_signals;
+    if (disturbs)
+        change_signals(SIG_SETMASK, atomic_load(&has_small_stacks) ? UINT64_MAX : ~FAULTS, &signals);
+    self.keeps_signals |= disturbs;
+    call_elsewhere(function, argument);
+    if (disturbs) {
+        self.keeps_signals = false;
+        change_signals(SIG_SETMASK, signals, NULL);
+    }
     pthread_setcancelstate(cancellation, NULL);
     errno = before;
 }

@@ -29,18 +29,14 @@ struct line {
 };
 
 /*
- * The wide blocks. One of up to WIDE_LEAST << 2 * N bytes is of level N, and stands in the bucket of the level's piece of
- * memory, of that size, in which it begins.
+ * The wide blocks. One of up to WIDE_LEAST << 2 * N bytes is of level N, and stands where the level's piece of memory, of
+ * that size, has its slots in which it begins.
  */
-enum { WIDE_LEAST_SHIFT = 14, LEVELS = 17, WIDE_BUCKETS = 1 << 12, WIDE_PLACES = 4, WIDE_TRIES = 2 };
+enum { WIDE_LEAST_SHIFT = 14, LEVELS = 17, WIDES = 1 << 14, WIDE_TRIES = 8 };
 
 struct wide {
     _Atomic uintptr_t from; /* 0 where there is none, 1 while it is filled */
     _Atomic size_t size;
-};
-
-struct wide_bucket {
-    struct wide places[WIDE_PLACES];
 };
 
 /* The callers of malloc, by which a block is told. */
@@ -52,7 +48,7 @@ struct origin {
 };
 
 static struct line *_Atomic lines; /* NULL where blocks aren't asked for */
-static struct wide_bucket *wides;
+static struct wide *wides;
 static struct origin *origins;
 static uint32_t origins_met;
 static _Atomic uint32_t levels_met;
@@ -63,7 +59,7 @@ bool blocks_made(void)
     if (!getenv("RECORDER_BLOCKS"))
         return true;
     struct line *made = table(LINES * sizeof *made);
-    wides = table(WIDE_BUCKETS * sizeof *wides);
+    wides = table(WIDES * sizeof *wides);
     origins = table(ORIGINS * sizeof *origins);
     if (!made || !wides || !origins)
         return false;
@@ -145,17 +141,17 @@ static uint32_t level_of(size_t size)
     return level;
 }
 
-static struct wide_bucket *wide_bucket(uint32_t level, uintptr_t piece, uint32_t try)
+static struct wide *wide_slot(uint32_t level, uintptr_t piece, uint32_t try)
 {
-    return &wides[(((piece << 5 | level) * 0x9e3779b97f4a7c15u >> 52) + try) % WIDE_BUCKETS];
+    return &wides[(((piece << 5 | level) * 0x9e3779b97f4a7c15u >> 50) + try) % WIDES];
 }
 
 static bool put_wide(uintptr_t from, size_t size)
 {
     uint32_t level = level_of(size);
     atomic_fetch_or(&levels_met, 1u << level);
-    for (uint32_t i = 0; i < WIDE_TRIES * WIDE_PLACES; i++) {
-        struct wide *wide = &wide_bucket(level, from >> wide_shift(level), i / WIDE_PLACES)->places[i % WIDE_PLACES];
+    for (uint32_t try = 0; try < WIDE_TRIES; try++) {
+        struct wide *wide = wide_slot(level, from >> wide_shift(level), try);
         uintptr_t nobody = 0;
         if (atomic_load_explicit(&wide->from, memory_order_relaxed) == 0
             && atomic_compare_exchange_strong(&wide->from, &nobody, 1)) {
@@ -174,12 +170,11 @@ static bool put_wide(uintptr_t from, size_t size)
 static struct wide *find_wide(uintptr_t address, bool begins, uintptr_t *from, uint64_t *word)
 {
     uint32_t met = atomic_load(&levels_met), pieces = begins ? 1 : 2;
-    for (uint32_t i = 0; i < LEVELS * pieces * WIDE_TRIES * WIDE_PLACES; i++) {
-        uint32_t level = i / (pieces * WIDE_TRIES * WIDE_PLACES), back = i / (WIDE_TRIES * WIDE_PLACES) % pieces;
+    for (uint32_t i = 0; i < LEVELS * pieces * WIDE_TRIES; i++) {
+        uint32_t level = i / (pieces * WIDE_TRIES), back = i / WIDE_TRIES % pieces;
         if (!(met >> level & 1))
             continue;
-        uintptr_t piece = (address >> wide_shift(level)) - back;
-        struct wide *wide = &wide_bucket(level, piece, i / WIDE_PLACES % WIDE_TRIES)->places[i % WIDE_PLACES];
+        struct wide *wide = wide_slot(level, (address >> wide_shift(level)) - back, i % WIDE_TRIES);
         *from = atomic_load_explicit(&wide->from, memory_order_acquire);
         size_t size = atomic_load_explicit(&wide->size, memory_order_acquire);
         if (begins ? *from == address
@@ -403,12 +398,6 @@ static uint64_t find_near(uintptr_t address, uintptr_t *from)
     return 0;
 }
 
-/* Whether the lock there may be in a block that isn't known. */
-static bool may_be_lost(void)
-{
-    return atomic_load(&any_lost) || !atomic_load(&any_came);
-}
-
 bool block_around(uintptr_t address, uint64_t *offset, uint32_t takers[DEPTH_MOST])
 {
     uintptr_t from;
@@ -416,7 +405,7 @@ bool block_around(uintptr_t address, uint64_t *offset, uint32_t takers[DEPTH_MOS
     if (!are_kept() || address >> ADDRESS_BITS != 0)
         return false;
     if (!(word = find_near(address, &from)) && !find_wide(address, false, &from, &word)) {
-        if (may_be_lost())
+        if (atomic_load(&any_lost) || !atomic_load(&any_came))
             count_missed(MISSED_BLOCKS);
         return false;
     }

@@ -30,15 +30,13 @@ static int spin_try(void *lock) { return real.pthread_spin_trylock(lock); }
 /* Spin locks have no such call: here it is a loop of tries. */
 static int spin_timed(void *lock, const struct timespec *limit)
 {
-    for (;;) {
-        for (int tries = 0; tries < 1000; tries++)
-            if (real.pthread_spin_trylock(lock) == 0)
-                return 0;
-        struct timespec now;
+    struct timespec now;
+    do {
+        if (real.pthread_spin_trylock(lock) == 0)
+            return 0;
         clock_gettime(CLOCK_REALTIME, &now);
-        if (now.tv_sec > limit->tv_sec || (now.tv_sec == limit->tv_sec && now.tv_nsec >= limit->tv_nsec))
-            return ETIMEDOUT;
-    }
+    } while (now.tv_sec < limit->tv_sec || (now.tv_sec == limit->tv_sec && now.tv_nsec < limit->tv_nsec));
+    return ETIMEDOUT;
 }
 
 static const struct way mutex_way = {MUTEX, EXCLUSIVE, mutex_lock, mutex_try, mutex_timed, mutex_look};

@@ -112,8 +112,7 @@ static bool may_recur(const struct held *held, const struct request *request)
 static void write_new(void *argument)
 {
     struct request *request = argument;
-    if (request->repeats || !chain_is_told(request->thread, request->lock->type))
-        request->stack = stack_of(request->caller);
+    request->stack = stack_of(request->caller);
     write_request(request);
 }
 
@@ -139,55 +138,37 @@ static void consider(struct request *request)
         aside(judge_waits, request);
 }
 
-/* A request that begins; its place where that is known and no stack is wanted there, else 0. */
-struct beginning {
-    struct request *request;
-    const void *address;
-    struct caller caller;
-    enum class class;
-    enum mode mode;
-    enum asking asking;
-    uint32_t place;
-    bool begun;
-};
-
-static void fill(struct request *request, const struct beginning *it, struct lock *lock)
+/* The thread is inside, and the lock has its record. */
+static inline void begin_inside(struct request *request, struct lock *lock)
 {
-    struct thread *thread = &self;
-    uint32_t place = it->place ? it->place : place_of(it->caller);
-    *request = (struct request){.thread = thread,
-        .lock = lock,
-        .again = held_of(thread, lock),
-        .caller = it->caller,
-        .place = place,
-        .stack = it->place ? 0 : stack_of_held(place, it->caller),
-        .mode = it->mode,
-        .tried = it->asking == TRIES,
-        .timed = it->asking == ASKS_FOR_A_TIME};
-    if (UNLIKELY(request->timed || thread->repeated.lingers))
+    request->lock = lock;
+    request->again = held_of(&self, lock);
+    if (UNLIKELY(request->timed || self.repeated.lingers))
         repeat_counts(request);
+    if (!request->tried && (self.count != 0 || WRITES_ALL))
+        consider(request);
 }
 
-static inline void begin_inside(struct beginning *it, struct lock *lock)
+static void find_place(struct request *request)
 {
-    fill(it->request, it, lock);
-    if (!it->request->tried && (self.count != 0 || WRITES_ALL))
-        consider(it->request);
-    it->begun = true;
+    request->place = place_of(request->caller);
+    request->stack = stack_of_held(request->place, request->caller);
 }
 
 static void begin(void *argument)
 {
-    struct beginning *it = argument;
-    if (UNLIKELY(!chain_opens(it->caller.stack)))
+    struct request *request = argument;
+    if (UNLIKELY(!chain_opens(request->caller.stack)))
         return;
     if (UNLIKELY(takes_long_way()))
         answer(&self);
-    struct lock *lock = lock_at(it->address);
-    if (LIKELY(lock) || (lock = lock_met(it->address, it->class, it->caller)))
-        begin_inside(it, lock);
-    else
+    struct lock *lock = lock_at(request->address);
+    if (LIKELY(lock) || (lock = lock_met(request->address, request->class, request->caller))) {
+        find_place(request);
+        begin_inside(request, lock);
+    } else {
         goes_outside(&self);
+    }
 }
 
 /* Nothing stands between the thread and its chain. */
@@ -217,25 +198,26 @@ static void touch(const void *address, enum class class)
 bool request_begins(struct request *request, const void *address, enum class class, enum mode mode,
     struct caller caller, enum asking asking)
 {
-    struct beginning it = {request, address, caller, class, mode, asking, 0, false};
+    *request = (struct request){.thread = &self, .address = address, .caller = caller, .class = class, .mode = mode,
+        .tried = asking == TRIES, .timed = asking == ASKS_FOR_A_TIME};
     if (UNLIKELY(is_asleep()))
         return false;
-    struct lock *lock = is_open(&self) && (it.place = plain_place(caller.pc)) ? lock_at(address) : NULL;
+    struct lock *lock = is_open(&self) && (request->place = plain_place(caller.pc)) ? lock_at(address) : NULL;
     if (LIKELY(lock)) {
         self.state = caller.stack;
         atomic_signal_fence(memory_order_seq_cst);
-        begin_inside(&it, lock);
+        begin_inside(request, lock);
     } else {
-        it.place = 0;
         touch(address, class);
-        aside(begin, &it);
+        aside(begin, request);
     }
+    if (!request->lock)
+        return false;
     /* All of the request is written: the process may end here. */
-    if (it.begun)
-        judge_tells(caller);
-    if (UNLIKELY(steers) && it.begun && asking != TRIES && steer_asks(request))
+    judge_tells(caller);
+    if (UNLIKELY(steers) && asking != TRIES && steer_asks(request))
         request->patient = true;
-    return it.begun;
+    return true;
 }
 
 /* A patient request has waited for a second: now it is written, so that the trace shows a circle where there is one. */
@@ -263,8 +245,9 @@ static inline void add_held(struct request *request)
     if (UNLIKELY(thread->count == thread->room) && !room_made(thread)) {
         if (request->pending)
             write_given_up(request);
-        count_missed_outside(MISSED_HELD);
         thread->unseen++;
+        ENTERS_OR(return);
+        count_missed(MISSED_HELD);
         return;
     }
     struct held *held = &thread->held[thread->count];
@@ -277,25 +260,16 @@ static inline void add_held(struct request *request)
     thread->count++;
 }
 
-/*
- * A call that was taken for one that was left goes on after all, though what it asked for was given up. What it gets is
- * held as after a try.
- */
-COLD static void take_as_tried(struct request *request)
-{
-    if (request->thread->asked == request->number)
-        return;
-    request->pending = false;
-    request->tried = true;
-}
-
 static __attribute__((noinline)) void ends(void *argument)
 {
     struct request *request = argument;
     struct thread *thread = request->thread;
     bool got = request->got;
-    if (UNLIKELY(request->pending))
-        take_as_tried(request);
+    if (UNLIKELY(request->pending) && thread->asked != request->number) {
+        /* It was taken for a call that was left, and given up. What it gets after all is held as after a try. */
+        request->pending = false;
+        request->tried = true;
+    }
     if (UNLIKELY(request->again != NULL) && got && request->again_refused) {
         /* The lock was given up by another thread while this one waited. */
         if (request->waited_for_itself)
@@ -398,51 +372,31 @@ void release_begins(const void *address, struct caller caller)
         aside(release, &it);
 }
 
-static void give_up(void *request)
-{
-    write_given_up(request);
-}
-
-struct waiting {
-    struct request *request;
-    const void *address;
-    struct caller caller;
-    bool asks_again, begun;
-};
-
 static void open_wait(void *argument)
 {
-    struct waiting *it = argument;
-    struct request *request = it->request;
+    struct request *request = argument;
     struct thread *thread = &self;
-    if (UNLIKELY(!chain_opens(it->caller.stack)))
+    if (UNLIKELY(!chain_opens(request->caller.stack)))
         return;
-    struct held *held = held_at(thread, it->address);
+    struct held *held = held_at(thread, request->address);
     if (!held) {
         goes_outside(thread);
         return;
     }
     if (thread->repeated.lingers)
         repeat_ends(thread);
-    uint32_t place = place_of(it->caller);
-    *request = (struct request){.thread = thread,
-        .lock = held->lock,
-        .caller = it->caller,
-        .place = place,
-        .stack = stack_of_held(place, it->caller),
-        .mode = EXCLUSIVE,
-        .ends_wait = true};
+    request->lock = held->lock;
+    find_place(request);
     released(thread, held);
     /* That it asks for the mutex again is written now, since the wait may never end. */
     request->again = held_of(thread, request->lock);
-    if (it->asks_again && !request->again && thread->count != 0) {
+    if (request->asks_again && !request->again && thread->count != 0) {
         consider(request);
         if (request->pending)
-            aside(give_up, request);
+            aside(write_given_up, request);
         request->patient = false;
-        waiter_begins(request, it->address);
+        waiter_begins(request);
     }
-    it->begun = true;
 }
 
 /*
@@ -451,16 +405,17 @@ static void open_wait(void *argument)
  */
 bool wait_begins(struct request *request, const void *address, bool asks_again, struct caller caller)
 {
+    *request = (struct request){.thread = &self, .address = address, .caller = caller, .class = MUTEX, .mode = EXCLUSIVE,
+        .ends_wait = true, .asks_again = asks_again};
     if (is_asleep())
         return false;
-    struct waiting it = {request, address, caller, asks_again, false};
     if (releases_simply(address) && plain_place(caller.pc))
-        open_wait(&it);
+        open_wait(request);
     else
-        aside(open_wait, &it);
-    if (it.begun)
+        aside(open_wait, request);
+    if (request->lock)
         judge_tells(caller);
-    return it.begun;
+    return request->lock != NULL;
 }
 
 /*

@@ -42,18 +42,13 @@ static const void *part(const struct elf *elf, uint64_t offset, uint64_t size)
  */
 static bool is_file_of(int file, const ElfW(Phdr) *segments, uint32_t count)
 {
+    enum { SEGMENTS_MOST = 64 };
+    static ElfW(Phdr) found[SEGMENTS_MOST];
     ElfW(Ehdr) header;
-    ElfW(Phdr) segment;
-    if (pread(file, &header, sizeof header, 0) != (ssize_t)sizeof header
-        || memcmp(header.e_ident, ELFMAG, SELFMAG) != 0 || header.e_phnum != count)
-        return false;
-    for (uint32_t i = 0; i < count; i++) {
-        off_t at = (off_t)(header.e_phoff + i * sizeof segment);
-        if (pread(file, &segment, sizeof segment, at) != (ssize_t)sizeof segment
-            || memcmp(&segment, &segments[i], sizeof segment) != 0)
-            return false;
-    }
-    return true;
+    size_t bytes = count * sizeof *found;
+    return count <= SEGMENTS_MOST && pread(file, &header, sizeof header, 0) == (ssize_t)sizeof header
+        && memcmp(header.e_ident, ELFMAG, SELFMAG) == 0 && header.e_phnum == count
+        && pread(file, found, bytes, (off_t)header.e_phoff) == (ssize_t)bytes && memcmp(found, segments, bytes) == 0;
 }
 
 void elf_opens(struct elf *elf, const char *path, const ElfW(Phdr) *segments, uint32_t count)
@@ -63,12 +58,8 @@ void elf_opens(struct elf *elf, const char *path, const ElfW(Phdr) *segments, ui
     if (file < 0)
         return;
     if (fstat(file, &found) == 0 && S_ISREG(found.st_mode) && is_file_of(file, segments, count)) {
-        void *bytes = mmap(NULL, (size_t)found.st_size, PROT_READ, MAP_PRIVATE, file, 0);
-        if (bytes != MAP_FAILED) {
-            elf->bytes = bytes;
-            elf->size = (size_t)found.st_size;
-            own_memory(elf->bytes, elf->size);
-        }
+        elf->bytes = mapped((size_t)found.st_size, PROT_READ, MAP_PRIVATE, file, 0);
+        elf->size = elf->bytes ? (size_t)found.st_size : 0;
     }
     close(file);
 }
@@ -147,34 +138,17 @@ static bool is_kept(const ElfW(Sym) *symbol, int kind)
         && symbol->st_shndx != SHN_UNDEF && symbol->st_size > 0;
 }
 
-/* Sorts by eleven bits from the shift on; what is equal in them keeps its order. */
-static void sort_once(const struct symbol *from, struct symbol *to, uint32_t count, uint32_t shift)
+/* Sorts by `from`, in Shell's way: it takes no memory. */
+static void sort(struct symbol *symbols, uint32_t count)
 {
-    enum { VALUES = 1 << 11 };
-    static uint32_t starts[VALUES + 1];
-    memset(starts, 0, sizeof starts);
-    for (uint32_t i = 0; i < count; i++)
-        starts[(from[i].from >> shift) % VALUES + 1]++;
-    for (uint32_t value = 1; value < VALUES; value++)
-        starts[value] += starts[value - 1];
-    for (uint32_t i = 0; i < count; i++)
-        to[starts[(from[i].from >> shift) % VALUES]++] = from[i];
-}
-
-/* The symbols by `from`, sorted in either of two tables of that size. */
-static struct symbol *sorted(struct symbol *symbols, struct symbol *other, uint32_t count)
-{
-    uint64_t most = 0;
-    for (uint32_t i = 0; i < count; i++)
-        if (symbols[i].from > most)
-            most = symbols[i].from;
-    for (uint32_t shift = 0; shift < 64 && most >> shift != 0; shift += 11) {
-        sort_once(symbols, other, count, shift);
-        struct symbol *kept = symbols;
-        symbols = other;
-        other = kept;
-    }
-    return symbols;
+    for (uint32_t gap = count / 2; gap > 0; gap = gap == 2 ? 1 : (uint32_t)(gap * 5ull / 11))
+        for (uint32_t i = gap; i < count; i++) {
+            struct symbol moved = symbols[i];
+            uint32_t at = i;
+            for (; at >= gap && symbols[at - gap].from > moved.from; at -= gap)
+                symbols[at] = symbols[at - gap];
+            symbols[at] = moved;
+        }
 }
 
 static void read_kind(struct elf *elf, int kind)
@@ -183,23 +157,21 @@ static void read_kind(struct elf *elf, int kind)
     for (uint32_t i = 0; i < elf->table_count; i++)
         count += is_kept(&elf->table[i], kind);
     struct symbol *symbols = count ? table(count * sizeof *symbols) : NULL;
-    struct symbol *other = symbols ? table(count * sizeof *other) : NULL;
-    if (!other)
+    if (!symbols)
         return;
     for (uint32_t i = 0; i < elf->table_count; i++) {
         const ElfW(Sym) *symbol = &elf->table[i];
         if (is_kept(symbol, kind))
             symbols[at++] = (struct symbol){symbol->st_value, symbol->st_value + symbol->st_size, 0, i, symbol->st_name};
     }
-    struct symbol *result = sorted(symbols, other, count);
-    table_goes(result == symbols ? other : symbols, count * sizeof *other);
+    sort(symbols, count);
     uint64_t furthest = 0;
     for (uint32_t i = 0; i < count; i++) {
-        if (result[i].to > furthest)
-            furthest = result[i].to;
-        result[i].furthest = furthest;
+        if (symbols[i].to > furthest)
+            furthest = symbols[i].to;
+        symbols[i].furthest = furthest;
     }
-    elf->kind[kind] = (struct symbols){result, count};
+    elf->kind[kind] = (struct symbols){symbols, count};
 }
 
 /* Reads the symbols once: there may be a hundred thousand, and a name is asked for at each place. */

@@ -22,13 +22,12 @@ enum { KEYS_WITHOUT_MEMORY = 32 };
 static bool is_new(enum lock_error error, uint32_t place)
 {
     uint64_t wanted = (uint64_t)life << 40 | (uint64_t)place << 8 | (uint64_t)error | 0x80;
-    uint32_t slot = 0;
-    while (slot < ERRORS_MOST && known[slot] != 0 && known[slot] != wanted)
-        slot++;
-    bool is = slot < ERRORS_MOST && known[slot] == 0;
-    if (is)
-        known[slot] = wanted;
-    return is;
+    for (uint32_t slot = 0; slot < ERRORS_MOST && known[slot] != wanted; slot++)
+        if (known[slot] == 0) {
+            known[slot] = wanted;
+            return true;
+        }
+    return false;
 }
 
 /* A robust mutex is meant for it that its holder ends. Its memory may be gone. */
@@ -42,14 +41,6 @@ static bool is_robust(const struct lock *lock)
 static bool stands_for_lock(const struct held *held)
 {
     return held->lost == atomic_load(&held->lock->lost) && atomic_load(&held->lock->address) != 0;
-}
-
-static struct held *held_by(struct thread *thread, const struct lock *lock)
-{
-    for (uint32_t i = thread->count; i-- > 0;)
-        if (thread->held[i].lock == lock && stands_for_lock(&thread->held[i]))
-            return &thread->held[i];
-    return NULL;
 }
 
 /* `error WORD SEAT LOCK PLACE`: the words are those of errors, in their order. */
@@ -91,16 +82,15 @@ void error_at(enum lock_error error, const void *address, struct caller caller)
 /* A handler of fork may make the locks anew that it took for the child, as those of allocators do. */
 void error_if_held(enum lock_error error, const void *address, struct caller caller)
 {
-    struct lock *lock = self.count ? lock_at(address) : NULL;
-    struct held *held = lock ? held_by(&self, lock) : NULL;
-    if (held && !held->before_fork)
+    struct held *held = self.count ? held_of(&self, lock_at(address)) : NULL;
+    if (held && stands_for_lock(held) && !held->before_fork)
         error_at(error, address, caller);
 }
 
 void error_of_freed(struct lock *lock)
 {
-    struct held *held = held_by(&self, lock);
-    if (held)
+    struct held *held = held_of(&self, lock);
+    if (held && stands_for_lock(held))
         tell(ERROR_FREED, lock, held->place);
 }
 

@@ -22,8 +22,8 @@ static COLD void library_opens(const char *name, bool past, uintptr_t stack)
         return;
     if (recorder_enters()) {
         if (past && is_opened_past(name))
-            status_object_past(name);
-        status_object(name);
+            status_notes(STATUS_PAST, name);
+        status_notes(WORD_OBJECT, name);
         recorder_leaves();
     }
     self.looks = true;

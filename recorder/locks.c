@@ -12,9 +12,9 @@
 #include <malloc.h>
 #include <string.h>
 
-enum { TYPE_BUCKETS = 1 << 12, ANCHORS = 1 << 8 };
-/* Memory is counted in regions of 4 kB, 64 kB and 1 MB: a region without locks is passed over as a whole. */
-enum { LEVELS = 3, REGION_SHIFT = 12, LEVEL_SHIFT = 4, REGIONS = 1 << 15 };
+enum { TYPE_BUCKETS = 1 << 12 };
+/* Memory is counted in regions: one without locks is passed over as a whole. */
+enum { REGION_BYTES = 1 << 16, REGIONS = 1 << 15 };
 
 /* Records and names are taken a piece at a time. The first one is there from the start, and has all that a trace has room for. */
 enum { PIECE_LOCKS = LOCKS, PIECES = LOCKS_ALIVE / PIECE_LOCKS };
@@ -25,17 +25,13 @@ static struct lock *free_locks;
 static uint32_t locks_taken;
 static _Atomic uint32_t locks_in_memory; /* those that free has to look for */
 
-static _Atomic uint32_t in_regions[LEVELS][REGIONS]; /* locks in memory, in all regions of that slot */
+static _Atomic uint32_t in_regions[REGIONS]; /* locks in memory, in all regions of that slot */
 
 static uint32_t names_taken;
 
 static struct type *types;
 static uint32_t types_met;
 static struct type *type_buckets[TYPE_BUCKETS];
-/* For variables whose locks are made again and again: where the variable begins. */
-static struct {
-    uintptr_t address, from;
-} anchors[ANCHORS];
 
 /* What stands there for the number, of that size; NULL where there is no room for it. */
 static void *numbered(void *pieces[PIECES], uint32_t number, size_t size)
@@ -51,27 +47,17 @@ static struct lock *lock_numbered(uint32_t number)
     return numbered(lock_pieces, number, sizeof(struct lock));
 }
 
-static struct name *name_numbered(uint32_t number)
-{
-    return numbered(name_pieces, number, sizeof(struct name));
-}
-
 bool locks_made(void)
 {
     lock_buckets = table(LOCK_BUCKETS * sizeof *lock_buckets);
     types = table((TYPES_MET + 1) * sizeof *types);
-    return lock_buckets && types && lock_numbered(0) && name_numbered(0);
+    return lock_buckets && types && lock_numbered(0) && numbered(name_pieces, 0, sizeof(struct name));
 }
 
-static inline uint32_t region_shift(int level)
+static inline _Atomic uint32_t *in_region(uintptr_t address)
 {
-    return (uint32_t)(REGION_SHIFT + level * LEVEL_SHIFT);
-}
-
-static inline _Atomic uint32_t *in_region(int level, uintptr_t address)
-{
-    uintptr_t region = address >> region_shift(level);
-    return &in_regions[level][(region ^ region >> 15) % REGIONS];
+    uintptr_t region = address / REGION_BYTES;
+    return &in_regions[(region ^ region >> 15) % REGIONS];
 }
 
 /* A lock in an object goes with that, and one that has no address (annotations.c) is in no memory. */
@@ -92,27 +78,14 @@ static void count_in_memory(uintptr_t address, bool more)
     if (address > atomic_load(&highest))
         atomic_store(&highest, address);
     atomic_fetch_add(&locks_in_memory, change);
-    for (int level = 0; level < LEVELS; level++)
-        atomic_fetch_add(in_region(level, address), change);
-}
-
-static inline bool is_empty(int level, uintptr_t address)
-{
-    return atomic_load_explicit(in_region(level, address), memory_order_relaxed) == 0;
+    atomic_fetch_add(in_region(address), change);
 }
 
 /* The first address from there on in whose region may be locks, or one behind the end. */
 static inline uintptr_t pass_over(uintptr_t at, uintptr_t end)
 {
-    while (at < end && is_empty(0, at)) {
-        int level = 0;
-        uintptr_t next = ((at >> region_shift(0)) + 1) << region_shift(0);
-        while (next < end && level + 1 < LEVELS && is_empty(level + 1, at)) {
-            level++;
-            next = ((at >> region_shift(level)) + 1) << region_shift(level);
-        }
-        at = next;
-    }
+    while (at < end && atomic_load_explicit(in_region(at), memory_order_relaxed) == 0)
+        at = (at / REGION_BYTES + 1) * REGION_BYTES;
     return at;
 }
 
@@ -186,16 +159,14 @@ static struct name *name_for(struct type *type, uintptr_t address, const struct 
 {
     uintptr_t variable = type->anchor ? address : 0;
     struct name **link = &type->free, *name;
-    while ((name = *link)
-        && (name->variable != variable || name->recursive != lock->recursive || name->shared != lock->shared))
-        link = &name->next;
-    if (name) {
-        *link = name->next;
-        if (type->free_end == &name->next)
-            type->free_end = link;
-        return name;
-    }
-    name = name_numbered(names_taken);
+    for (; (name = *link) != NULL; link = &name->next)
+        if (name->variable == variable && name->recursive == lock->recursive && name->shared == lock->shared) {
+            *link = name->next;
+            if (type->free_end == &name->next)
+                type->free_end = link;
+            return name;
+        }
+    name = numbered(name_pieces, names_taken, sizeof *name);
     if (!name)
         return NULL;
     names_taken++;
@@ -321,14 +292,18 @@ static uint32_t counted(struct array *table, uintptr_t from, uint32_t object)
     return ++array->locks;
 }
 
-/* What the type of a lock goes by that no init call has made: the lock itself, or the array that it is in. */
-static uintptr_t anchor_of_met(uint32_t object, uintptr_t address)
+/*
+ * What the type of a lock in an object goes by: the variable that it is in. Where no init call has made it, that is the lock
+ * itself unless the variable is an array.
+ */
+static uintptr_t anchor_of(const struct type *wanted)
 {
-    uintptr_t from;
-    uint64_t size;
-    if (counted(in_objects, 0, object) <= FEW_LOCKS || !*object_symbol(object, address, false, &from, &size))
+    uintptr_t from, address = wanted->address;
+    uint32_t object = wanted->object;
+    if ((wanted->met && counted(in_objects, 0, object) <= FEW_LOCKS)
+        || !object_symbol(object, address, false, &from, NULL, NULL))
         return address;
-    return counted(arrays, from, object) <= FEW_LOCKS ? address : from;
+    return wanted->met && counted(arrays, from, object) <= FEW_LOCKS ? address : from;
 }
 
 /*
@@ -346,18 +321,6 @@ static void look_for_block(struct type *wanted)
         return;
     memcpy(wanted->uses, wanted->places, sizeof wanted->uses);
     memcpy(wanted->places, takers, sizeof wanted->places);
-}
-
-static uintptr_t anchor_of(uint32_t object, uintptr_t address)
-{
-    uint32_t slot = (uint32_t)(address >> 3) % ANCHORS;
-    if (anchors[slot].address != address) {
-        uint64_t size;
-        anchors[slot].address = address;
-        if (!*object_symbol(object, address, false, &anchors[slot].from, &size))
-            anchors[slot].from = address;
-    }
-    return anchors[slot].from;
 }
 
 /* A lock comes to be known: by its first use, or by an init call, which may give its type a name. */
@@ -387,7 +350,7 @@ static void come(void *argument)
     if (!wanted.label)
         wanted.object = object_of(wanted.address, false);
     if (wanted.object)
-        wanted.anchor = it->met ? anchor_of_met(wanted.object, wanted.address) : anchor_of(wanted.object, wanted.address);
+        wanted.anchor = anchor_of(&wanted);
     else if (!wanted.label)
         look_for_block(&wanted);
     if (wanted.object && it->met)
@@ -433,14 +396,14 @@ struct lock *lock_held_from(uint32_t *at, int32_t *holder)
     return NULL;
 }
 
-/* A lock in the block, from the piece on that *at stands in, NULL where there is none. */
-static struct lock *lock_in(uintptr_t *at, uintptr_t end)
+/* A lock up to the youngest of these in the block, from the piece on that *at stands in; NULL where there is none. */
+static struct lock *lock_in(uintptr_t *at, uintptr_t end, uint32_t youngest)
 {
     while ((*at = pass_over(*at, end)) < end) {
         struct lock *lock = atomic_load_explicit(lock_bucket(*at), memory_order_acquire);
         for (; lock; lock = atomic_load_explicit(&lock->next, memory_order_acquire)) {
             uintptr_t address = atomic_load_explicit(&lock->address, memory_order_relaxed);
-            if (address >= *at && address < end)
+            if (address >= *at && address < end && lock->serial <= youngest)
                 return lock;
         }
         *at = (*at / LOCK_PIECE + 1) * LOCK_PIECE;
@@ -458,7 +421,7 @@ static void free_locks_in(void *argument)
     uintptr_t at = block->from;
     struct lock *lock;
     ENTERS_OR(return);
-    while ((lock = lock_in(&at, block->end)) != NULL) {
+    while ((lock = lock_in(&at, block->end, UINT32_MAX)) != NULL) {
         error_of_freed(lock);
         forget(lock, is_free(lock));
     }
@@ -471,7 +434,7 @@ void locks_freed(const void *block)
         return;
     uintptr_t at = (uintptr_t)block, end = at + malloc_usable_size((void *)block);
     if (at > atomic_load_explicit(&highest, memory_order_relaxed)
-        || end <= atomic_load_explicit(&lowest, memory_order_relaxed) || LIKELY(!lock_in(&at, end)))
+        || end <= atomic_load_explicit(&lowest, memory_order_relaxed) || LIKELY(!lock_in(&at, end, UINT32_MAX)))
         return;
     GOES_INSIDE_OR(HERE, return);
     aside(free_locks_in, &(struct block){at, end});
@@ -497,15 +460,8 @@ void locks_left(uintptr_t from, uintptr_t to, uint32_t youngest)
         return;
     GOES_INSIDE_OR(HERE, return);
     ENTERS_OR(return);
-    for (uintptr_t at = from; (at = pass_over(at, to)) < to; at = (at / LOCK_PIECE + 1) * LOCK_PIECE) {
-        struct lock *next, *lock = atomic_load(lock_bucket(at));
-        for (; lock; lock = next) {
-            uintptr_t address = atomic_load(&lock->address);
-            next = atomic_load(&lock->next);
-            if (address >= from && address < to && lock->serial - 1 < youngest)
-                forget(lock, false);
-        }
-    }
+    for (struct lock *lock; (lock = lock_in(&from, to, youngest)) != NULL;)
+        forget(lock, false);
 }
 
 void object_gone(uintptr_t from, uintptr_t to)
@@ -516,7 +472,6 @@ void object_gone(uintptr_t from, uintptr_t to)
         if (address >= from && address < to)
             forget(lock, false);
     }
-    memset(anchors, 0, sizeof anchors);
     places_closed(from, to);
 }
 

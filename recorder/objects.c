@@ -100,8 +100,7 @@ static const char *path_of(const char *name)
 
 static bool is_same_file(const struct file_mark *one, const struct file_mark *other)
 {
-    return one->inode && one->device == other->device && one->inode == other->inode && one->size == other->size
-        && one->changed.tv_sec == other->changed.tv_sec && one->changed.tv_nsec == other->changed.tv_nsec;
+    return one->inode && memcmp(one, other, sizeof *one) == 0;
 }
 
 /* The object was loaded before, at the same addresses, and closed since then: it keeps its number and its places. */
@@ -167,7 +166,7 @@ static uint32_t meet(const struct loaded *loaded)
             close_object(&objects[i]);
     uint32_t number = numbered(loaded);
     if (number)
-        status_object(objects[number].path);
+        status_notes(WORD_OBJECT, objects[number].path);
     return number;
 }
 
@@ -199,8 +198,8 @@ static int look_at(struct dl_phdr_info *info, size_t size, void *argument)
     struct walk *walk = argument;
     struct loaded *loaded = &walk->loaded[walk->count];
     size_t length = strlen(info->dlpi_name) + 1;
-    if (size >= offsetof(struct dl_phdr_info, dlpi_subs) + sizeof info->dlpi_subs)
-        walk->changes = info->dlpi_adds + info->dlpi_subs;
+    (void)size;
+    walk->changes = info->dlpi_adds + info->dlpi_subs;
     if (walk->changes == atomic_load(&changes_seen))
         return 1;
     if (walk->count == OBJECTS || length > NAMES_BYTES - walk->used || !is_laid_out(info, loaded))
@@ -241,9 +240,8 @@ static void name_program(void)
     if (!started || !program || !file_marked(started, &file))
         return;
     struct object *object = &objects[program];
-    const char *name = strrchr(started, '/'), *own = strrchr(object->path, '/');
-    name = name ? name + 1 : started;
-    if (file.device == object->file.device && file.inode == object->file.inode && own && strcmp(name, own + 1) != 0)
+    const char *name = basename(started);
+    if (is_same_file(&file, &object->file) && strcmp(name, basename(object->path)) != 0)
         object->called = keep_text(name, strlen(name));
 }
 
@@ -345,15 +343,18 @@ struct marks *object_marks(uint32_t object)
     return &objects[object].marks;
 }
 
-const char *object_symbol(uint32_t number, uintptr_t address, bool function, uintptr_t *from, uint64_t *size)
+bool object_symbol(uint32_t number, uintptr_t address, bool function, uintptr_t *from, uint64_t *size, const char **name)
 {
     struct elf *elf = &objects[number].elf;
     const struct symbol *symbol = elf_symbol(elf, address - elf->bias, function ? FUNCTIONS : VARIABLES);
     if (!symbol)
-        return "";
+        return false;
     *from = symbol->from + elf->bias;
-    *size = symbol->to - symbol->from;
-    return elf_name(elf, symbol->name);
+    if (size)
+        *size = symbol->to - symbol->from;
+    if (name)
+        *name = elf_name(elf, symbol->name);
+    return true;
 }
 
 const char *object_symbol_file(uint32_t number, uintptr_t address)

@@ -11,31 +11,32 @@
 typedef void by_address(void *);
 typedef int answered_by_address(void *);
 
+/* Each function of them, and what it does: one that has its OWN body below does more. */
 #define EACH_OF_GLIB(EACH)                                                                                             \
-    EACH(g_mutex_init)                                                                                                 \
-    EACH(g_mutex_clear)                                                                                                \
-    EACH(g_mutex_lock)                                                                                                 \
-    EACH(g_mutex_trylock)                                                                                              \
-    EACH(g_mutex_unlock)                                                                                               \
-    EACH(g_cond_wait)                                                                                                  \
-    EACH(g_cond_wait_until)
+    EACH(MAKES, glib, g_mutex_init)                                                                                    \
+    EACH(DESTROYS, glib, g_mutex_clear)                                                                                \
+    EACH(ASKS_FOR, glib, g_mutex_lock)                                                                                 \
+    EACH(TRIES_FOR, glib, g_mutex_trylock)                                                                             \
+    EACH(RELEASES, glib, g_mutex_unlock)                                                                               \
+    EACH(OWN, glib, g_cond_wait)                                                                                       \
+    EACH(OWN, glib, g_cond_wait_until)
 #define EACH_OF_OPENMP(EACH)                                                                                           \
-    EACH(omp_init_lock)                                                                                                \
-    EACH(omp_destroy_lock)                                                                                             \
-    EACH(omp_set_lock)                                                                                                 \
-    EACH(omp_test_lock)                                                                                                \
-    EACH(omp_unset_lock)                                                                                               \
-    EACH(omp_init_nest_lock)                                                                                           \
-    EACH(omp_destroy_nest_lock)                                                                                        \
-    EACH(omp_set_nest_lock)                                                                                            \
-    EACH(omp_test_nest_lock)                                                                                           \
-    EACH(omp_unset_nest_lock)                                                                                          \
-    EACH(GOMP_critical_start)                                                                                          \
-    EACH(GOMP_critical_end)                                                                                            \
-    EACH(GOMP_critical_name_start)                                                                                     \
-    EACH(GOMP_critical_name_end)
+    EACH(MAKES, openmp, omp_init_lock)                                                                                 \
+    EACH(DESTROYS, openmp, omp_destroy_lock)                                                                           \
+    EACH(ASKS_FOR, openmp, omp_set_lock)                                                                               \
+    EACH(TRIES_FOR, openmp, omp_test_lock)                                                                             \
+    EACH(RELEASES, openmp, omp_unset_lock)                                                                             \
+    EACH(MAKES, openmp, omp_init_nest_lock)                                                                            \
+    EACH(DESTROYS, openmp, omp_destroy_nest_lock)                                                                      \
+    EACH(OWN, openmp, omp_set_nest_lock)                                                                               \
+    EACH(OWN, openmp, omp_test_nest_lock)                                                                              \
+    EACH(OWN, openmp, omp_unset_nest_lock)                                                                             \
+    EACH(OWN, openmp, GOMP_critical_start)                                                                             \
+    EACH(OWN, openmp, GOMP_critical_end)                                                                               \
+    EACH(OWN, openmp, GOMP_critical_name_start)                                                                        \
+    EACH(RELEASES, openmp, GOMP_critical_name_end)
 
-#define IN_TABLE(name) AT_##name,
+#define IN_TABLE(what, library, name) AT_##name,
 enum { EACH_OF_GLIB(IN_TABLE) GLIB_COUNT };
 enum { EACH_OF_OPENMP(IN_TABLE) OPENMP_COUNT };
 static struct other glib[GLIB_COUNT], openmp[OPENMP_COUNT];
@@ -45,37 +46,34 @@ static struct other glib[GLIB_COUNT], openmp[OPENMP_COUNT];
     ((__typeof__(type) *)atomic_load_explicit(&(library)[AT_##name].real, memory_order_relaxed))
 
 /* The ways of calls without an answer, and of tries that answer 0 where the lock isn't free. No call has a time limit. */
-#define WAY(kind, library, lock_name, try_name)                                                                        \
-    static int kind##_lock(void *lock) { return REAL(by_address, library, lock_name)(lock), 0; }                       \
-    static int kind##_try(void *lock)                                                                                  \
+#define WAY(library, lock_name, try_name)                                                                              \
+    static int library##_lock(void *lock) { return REAL(by_address, library, lock_name)(lock), 0; }                    \
+    static int library##_try(void *lock)                                                                               \
     {                                                                                                                  \
         return REAL(answered_by_address, library, try_name)(lock) ? 0 : EBUSY;                                         \
     }                                                                                                                  \
-    static int kind##_timed(void *lock, const struct timespec *unused)                                                 \
+    static int library##_timed(void *lock, const struct timespec *unused)                                              \
     {                                                                                                                  \
         (void)unused;                                                                                                  \
-        return kind##_lock(lock);                                                                                      \
+        return library##_lock(lock);                                                                                   \
     }                                                                                                                  \
-    static const struct way kind##_way = {SPIN, EXCLUSIVE, kind##_lock, kind##_try, kind##_timed, kind##_try}
+    static const struct way library##_way = {SPIN, EXCLUSIVE, library##_lock, library##_try, library##_timed, library##_try}
 
-WAY(glib, glib, g_mutex_lock, g_mutex_trylock);
-WAY(omp, openmp, omp_set_lock, omp_test_lock);
+WAY(glib, g_mutex_lock, g_mutex_trylock);
+WAY(openmp, omp_set_lock, omp_test_lock);
 
 /* The library's calls that make a lock, destroy it, ask for it, try to get it, and release it. */
-#define MAKES(library, name)                                                                                           \
+#define AND_THEN(library, name, done)                                                                                  \
     static void own_##name(void *lock)                                                                                 \
     {                                                                                                                  \
         REAL(by_address, library, name)(lock);                                                                         \
-        lock_made(lock, SPIN, CALLER);                                                                                 \
+        done;                                                                                                          \
     }
-#define DESTROYS(library, name)                                                                                        \
-    static void own_##name(void *lock)                                                                                 \
-    {                                                                                                                  \
-        REAL(by_address, library, name)(lock);                                                                         \
-        lock_gone(lock);                                                                                               \
-    }
-#define ASKS_FOR(way, name) static void own_##name(void *lock) { acquire(&way, lock); }
-#define TRIES_FOR(way, name) static int own_##name(void *lock) { return acquire_at_once(&way, lock, CALLER) == 0; }
+#define MAKES(library, name) AND_THEN(library, name, lock_made(lock, SPIN, CALLER))
+#define DESTROYS(library, name) AND_THEN(library, name, lock_gone(lock))
+#define ASKS_FOR(library, name) static void own_##name(void *lock) { acquire(&library##_way, lock); }
+#define TRIES_FOR(library, name)                                                                                       \
+    static int own_##name(void *lock) { return acquire_at_once(&library##_way, lock, CALLER) == 0; }
 #define RELEASES(library, name)                                                                                        \
     static void own_##name(void *lock)                                                                                 \
     {                                                                                                                  \
@@ -83,19 +81,10 @@ WAY(omp, openmp, omp_set_lock, omp_test_lock);
         REAL(by_address, library, name)(lock);                                                                         \
     }
 
-MAKES(glib, g_mutex_init)
-DESTROYS(glib, g_mutex_clear)
-ASKS_FOR(glib_way, g_mutex_lock)
-TRIES_FOR(glib_way, g_mutex_trylock)
-RELEASES(glib, g_mutex_unlock)
-MAKES(openmp, omp_init_lock)
-DESTROYS(openmp, omp_destroy_lock)
-ASKS_FOR(omp_way, omp_set_lock)
-TRIES_FOR(omp_way, omp_test_lock)
-RELEASES(openmp, omp_unset_lock)
-MAKES(openmp, omp_init_nest_lock)
-DESTROYS(openmp, omp_destroy_nest_lock)
-RELEASES(openmp, GOMP_critical_name_end)
+#define OWN(library, name)
+#define DEFINED(what, library, name) what(library, name)
+EACH_OF_GLIB(DEFINED)
+EACH_OF_OPENMP(DEFINED)
 
 static bool own_wait(void *condition, void *mutex, struct caller caller, const int64_t *end)
 {
@@ -186,7 +175,7 @@ static void own_GOMP_critical_name_start(void **name)
     enter_critical(name, CALLER, REAL(by_address, openmp, GOMP_critical_name_start), name);
 }
 
-#define OWN_OF(function) [AT_##function] = {.name = #function, .own = (void *)own_##function},
+#define OWN_OF(what, library, function) [AT_##function] = {.name = #function, .own = (void *)own_##function},
 static struct other glib[GLIB_COUNT] = {EACH_OF_GLIB(OWN_OF)};
 static struct other openmp[OPENMP_COUNT] = {EACH_OF_OPENMP(OWN_OF)};
 static const char *const glib_names[] = {"libglib-2.0", NULL};

@@ -19,11 +19,6 @@ static struct range {
     _Atomic uintptr_t to;
 } ranges[RANGES];
 
-static uintptr_t whole_page(uintptr_t address)
-{
-    return (address + PAGE_BYTES - 1) & ~(uintptr_t)(PAGE_BYTES - 1);
-}
-
 void own_memory(const void *from, size_t bytes)
 {
     for (struct range *range = ranges; range < ranges + RANGES; range++) {
@@ -31,7 +26,7 @@ void own_memory(const void *from, size_t bytes)
         if (atomic_load_explicit(&range->from, memory_order_relaxed) != 0
             || !atomic_compare_exchange_strong(&range->from, &none, (uintptr_t)from))
             continue;
-        atomic_store(&range->to, whole_page((uintptr_t)from + bytes));
+        atomic_store(&range->to, ((uintptr_t)from + bytes + PAGE_BYTES - 1) / PAGE_BYTES * PAGE_BYTES);
         return;
     }
 }

@@ -103,10 +103,8 @@ static bool is_for(const char *pattern, const char *word)
 }
 
 /* Whether the user said that the function is to be passed over. */
-static bool is_passed_over(const char *name)
+static bool is_passed_over(const char *name, const char *word)
 {
-    char word[WORD_MOST];
-    last_word(name, word);
     for (const char *at = skipped; *at; at += strcspn(at, ":"), at += *at == ':')
         if (is_for(at, word) || is_for(at, name))
             return true;
@@ -117,24 +115,22 @@ static bool is_passed_over(const char *name)
  * By the name of a function and its size: whether it does something with a lock and little else. What stands in for one of
  * pthread's, as ThreadSanitizer does, may do more.
  */
-static bool is_wrapper(const char *name, uint64_t size)
+static bool is_wrapper(const char *name, const char *word, uint64_t size)
 {
     static const char *const within[] = {LIBRARY_WRAPPERS};
     static const char *const others[] = {NO_WRAPPER_ENDS, NULL}, *const ends[] = {WRAPPER_ENDS, NULL};
-    char word[WORD_MOST];
     for (size_t i = 0; i < sizeof within / sizeof *within; i++)
         if (strstr(name, within[i]))
             return true;
-    last_word(name, word);
     return !ends_with_one_of(word, others) && ends_with_one_of(word, ends)
         && (size <= WRAPPER_BYTES || strncmp(word, "pthread_", 8) == 0);
 }
 
-/* Whether the function is one of Rust's own libraries, or of the crate that annotates locks, by its mangled name. */
+/* Whether the function is one of Rust's own libraries, or of the crates that annotate locks, by its mangled name. */
 static bool is_of_rust(const char *name)
 {
-    static const char *const crates[] = {"3std", "4core", "5alloc", "7witness"};
-    if (strcmp(name, "__rust_try") == 0)
+    static const char *const crates[] = {"3std", "4core", "5alloc", "7witness", "8lock_api"};
+    if (strcmp(name, "__rust_try") == 0 || strstr(name, "$u20$as$u20$lock_api.."))
         return true;
     const char *crate = strncmp(name, "_R", 2) == 0 ? strstr(name, "Cs") : NULL;
     crate = crate ? strchr(crate, '_') : NULL;
@@ -151,15 +147,13 @@ static bool is_of_rust(const char *name)
 }
 
 /* Whether the function does little else than take memory for its caller: operator new, xmalloc. */
-static bool is_taker(const char *name, uint64_t size)
+static bool is_taker(const char *name, const char *word, uint64_t size)
 {
     static const char *const news[] = {"_Znw", "_Zna", NULL}, *const ends[] = {TAKER_ENDS, NULL};
-    char word[WORD_MOST];
-    last_word(name, word);
     return after_one_of(name, news) || (size <= WRAPPER_BYTES && ends_with_one_of(word, ends));
 }
 
-static uint8_t detour_of(const char *name, uint64_t size)
+static uint8_t detour_of(const char *name, const char *word, uint64_t size)
 {
     static const char *const library[] = {"_ZNSt3__1", "_ZNKSt3__1", "_ZNSt", "_ZNKSt", "_ZSt", NULL};
     static const char *const of_compiler[] = {"_ZN9__gnu_cxx", "_ZNK9__gnu_cxx", NULL};
@@ -169,7 +163,7 @@ static uint8_t detour_of(const char *name, uint64_t size)
         "11timed_mutex", "12shared_mutex", "12__mutex_base", "15recursive_mutex", "18shared_timed_mutex",
         "21recursive_timed_mutex", "22__shared_mutex_pthread", NULL};
     const char *in_library = after_one_of(name, library);
-    if (is_passed_over(name))
+    if (is_passed_over(name, word))
         return DETOUR_WRAPPER;
     if (is_of_rust(name) || after_one_of(name, of_compiler))
         return DETOUR_LIBRARY;
@@ -177,21 +171,22 @@ static uint8_t detour_of(const char *name, uint64_t size)
         return after_one_of(in_library, runs) ? DETOUR_NONE
             : after_one_of(in_library, locks) ? DETOUR_WRAPPER
                                               : DETOUR_LIBRARY;
-    return is_wrapper(name, size) ? DETOUR_WRAPPER : DETOUR_NONE;
+    return is_wrapper(name, word, size) ? DETOUR_WRAPPER : DETOUR_NONE;
 }
 
 /* What its object knows of the place, and what that says of the call. */
 static void look_up(struct place *place, uintptr_t pc)
 {
     uintptr_t from;
-    uint64_t size = 0;
+    uint64_t size;
+    char word[WORD_MOST];
     place->offset = object_offset(place->object, pc);
-    place->name = object_symbol(place->object, pc - 1, true, &from, &size);
-    if (!*place->name)
+    if (!object_symbol(place->object, pc - 1, true, &from, &size, &place->name))
         return;
     place->within = pc - from;
-    place->takes_memory = is_taker(place->name, size);
-    uint8_t detour = detour_of(place->name, size);
+    last_word(place->name, word);
+    place->takes_memory = is_taker(place->name, word, size);
+    uint8_t detour = detour_of(place->name, word, size);
     if (detour != DETOUR_NONE)
         place->detour = detour;
 }
@@ -225,7 +220,7 @@ static void add(uintptr_t pc, int32_t step, bool leaves_base)
 {
     uint32_t number = place_at_pc(pc);
     if (!number) {
-        uint16_t object = places_met < PLACES / 4 * 3 ? (uint16_t)object_of(pc - 1, true) : 0;
+        uint16_t object = (uint16_t)object_of(pc - 1, true);
         place_made(pc, &(struct place){.step = step, .leaves_base = leaves_base, .name = "", .object = object});
         return;
     }
@@ -287,8 +282,8 @@ static bool is_complete(const struct stack *stack)
         return true;
     uintptr_t called = stack->count > 1 ? stack->frames[stack->count - 2].pc - 1 : 0, from;
     uint32_t object = called ? object_of(called, true) : 0;
-    uint64_t size;
-    return object && strcmp(object_symbol(object, called, true, &from, &size), "__cxa_finalize") == 0;
+    const char *name;
+    return object && object_symbol(object, called, true, &from, NULL, &name) && strcmp(name, "__cxa_finalize") == 0;
 }
 
 static uintptr_t word_at(uintptr_t address)
@@ -302,12 +297,6 @@ static uintptr_t word_at(uintptr_t address)
 static uintptr_t return_address(uintptr_t stack)
 {
     return word_at(stack - sizeof(uintptr_t));
-}
-
-/* Below the return address a function saves its caller's frame pointer, if it is to have one of its own. */
-static uintptr_t saved_base(uintptr_t stack)
-{
-    return word_at(stack - 2 * sizeof(uintptr_t));
 }
 
 /* How the frame's own caller is found from it, whenever it is met. A frame pointer into the middle of a frame stands in
@@ -368,8 +357,9 @@ static inline bool climb(struct frame *frame, const struct place *place)
         return false;
     frame->stack = step == STEP_FRAME ? frame->base + 2 * sizeof(uintptr_t) : frame->stack + (uintptr_t)step;
     frame->pc = return_address(frame->stack);
+    /* Below the return address a function saves its caller's frame pointer, if it is to have one of its own. */
     if (step == STEP_FRAME)
-        frame->base = saved_base(frame->stack);
+        frame->base = word_at(frame->stack - 2 * sizeof(uintptr_t));
     else
         frame->has_base = frame->has_base && place->leaves_base;
     return true;

@@ -47,12 +47,11 @@ struct plan_order {
     struct plan_chain hold, ask;
     struct plan_code hold_lock, ask_lock;
     uint32_t holds_back; /* a thread waits before the first lock, too */
-    struct plan_met held, asked;
+    struct plan_met asked;
 };
 
 struct plan {
     uint64_t mark;
-    uint32_t bytes; /* of this struct */
     uint32_t orders;
     uint32_t pause_ms, back_ms; /* the longest pause before a second lock, and before a first one */
     uint32_t noise_ms;          /* the longest before any second lock, at random; 0 for none */

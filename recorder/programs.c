@@ -3,8 +3,6 @@
  * statically, run as another user, or be given an environment without LD_PRELOAD. So its slot of the status says first
  * that it is started, and the program itself says that it is loaded. A program that is started by a bare call of the
  * kernel isn't seen here.
- *
- * A child of vfork shares its parent's memory: nothing of that is written to.
  */
 #include "quick.h"
 
@@ -36,19 +34,21 @@ static void copy_base(char to[NAME_MOST], const char *path)
     to[length] = '\0';
 }
 
+/* A child of vfork comes here, too: nothing may be written but what the processes share. */
 static void begins(const char *program)
 {
     char name[NAME_MOST];
     start();
     copy_base(name, program);
-    status_starts(name);
+    status_started(getpid(), name);
+    status_loaded(NOT_LOADED);
 }
 
 /* Where a call comes back, no program was started by it. */
 static int comes_back(int answer)
 {
     int before = errno;
-    status_starts_not();
+    status_loaded(LOADED);
     errno = before;
     return answer;
 }
@@ -108,19 +108,11 @@ BECOMES_BY_WORDS(execle, execve, va_arg(list, char **))
 SPAWNS(posix_spawn)
 SPAWNS(posix_spawnp)
 
-static bool has_word(const char *word)
-{
-    for (char **each = environ; each && *each; each++)
-        if (strncmp(*each, word, strlen(word)) == 0)
-            return true;
-    return false;
-}
-
 /* The C library starts a shell, which loads the recorder where the environment says so. */
 static COLD void shell_begins(uintptr_t stack)
 {
     start();
-    if (has_word("LD_PRELOAD=") && has_word("RECORDER_DIRECTORY="))
+    if (getenv("LD_PRELOAD") && getenv("RECORDER_DIRECTORY"))
         return;
     GOES_INSIDE_OR(stack, return);
     ENTERS_OR(return);

@@ -85,6 +85,12 @@ static inline void held_fill(struct held *held, struct lock *lock, uint32_t plac
     held->how = HOW_ONCE(mode);
 }
 
+/* The acquisition has that stack. All is written at once. */
+static inline void held_has_stack(struct held *held, uint32_t stack)
+{
+    held->how |= (uint64_t)stack << 48;
+}
+
 /*
  * Goes inside the recorder, from where a handler of signals sees nothing half done: its calls aren't recorded. False
  * where the thread is inside already, or its chain may have what it has lost.

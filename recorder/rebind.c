@@ -109,17 +109,6 @@ struct dynamic {
     bool is_open;
 };
 
-static void read_entries(struct dynamic *object, const ElfW(Dyn) *entries)
-{
-    object->symbols = dynamic_pointer(entries, DT_SYMTAB, object->base);
-    object->strings = dynamic_pointer(entries, DT_STRTAB, object->base);
-    object->words = dynamic_pointer(entries, DT_RELA, object->base);
-    object->calls = dynamic_pointer(entries, DT_JMPREL, object->base);
-    object->words_count = dynamic_word(entries, DT_RELASZ) / sizeof *object->words;
-    object->calls_count = dynamic_word(entries, DT_PLTRELSZ) / sizeof *object->calls;
-    object->relative_count = dynamic_word(entries, DT_RELACOUNT);
-}
-
 static bool dynamic_read(struct dynamic *object, const struct dl_phdr_info *info)
 {
     *object = (struct dynamic){.base = info->dlpi_addr};
@@ -133,8 +122,16 @@ static bool dynamic_read(struct dynamic *object, const struct dl_phdr_info *info
             object->kept_to = (from + segment->p_memsz) & ~(uintptr_t)(PAGE_BYTES - 1);
         }
     }
-    if (object->entries)
-        read_entries(object, object->entries);
+    const ElfW(Dyn) *entries = object->entries;
+    if (!entries)
+        return false;
+    object->symbols = dynamic_pointer(entries, DT_SYMTAB, object->base);
+    object->strings = dynamic_pointer(entries, DT_STRTAB, object->base);
+    object->words = dynamic_pointer(entries, DT_RELA, object->base);
+    object->calls = dynamic_pointer(entries, DT_JMPREL, object->base);
+    object->words_count = dynamic_word(entries, DT_RELASZ) / sizeof *object->words;
+    object->calls_count = dynamic_word(entries, DT_PLTRELSZ) / sizeof *object->calls;
+    object->relative_count = dynamic_word(entries, DT_RELACOUNT);
     return object->symbols && object->strings;
 }
 

@@ -232,6 +232,12 @@ struct repeated {
  */
 enum state { UNREADY, OPEN, STARTING };
 
+/* Where a thread was made; by which one, as the kernel counts; when that one was made, and by whom. 0 where it isn't known. */
+struct birth {
+    uint32_t place, maker, at; /* AT: how many threads had been made and joined before */
+    uint32_t maker_at, grand;
+};
+
 struct thread {
     volatile uintptr_t state;
     uint32_t count;
@@ -251,13 +257,10 @@ struct thread {
     uintptr_t other_stack; /* where its stack for handlers begins, as it was set last, and how long that is */
     size_t other_size;
     uint32_t serial; /* no other thread of this process has it; above SERIAL_BITS, how many threads it has made, 7 at most */
-    uint32_t made; /* the place where the thread was made; 0 of the first one, or where that isn't known */
-    uint32_t maker;   /* the thread that made it, as the kernel counts; 0 of the first one, or where that isn't known */
-    uint32_t made_at; /* how many threads had been made and joined before */
-    uint32_t grand, maker_at; /* the same of its maker: who made that one, and when */
+    struct birth birth;
     bool has_pairs;  /* that stand in a stream */
     struct repeated repeated;
-    struct waiter *waiter, *last_waiter; /* where it waits for a condition, NULL else; and where it did last (waiters.c) */
+    struct waiter *waiter; /* where it waits for a condition (waiters.c), NULL else */
     uint64_t known[KNOWN];  /* requests that tell nothing new, each by what stands for its locks (quick.h) */
     uint64_t known_after[KNOWN]; /* and the last one after each number of locks, up to KNOWN */
 };
@@ -265,15 +268,18 @@ struct thread {
 /* A request from its check to its end. */
 struct request {
     struct thread *thread;
-    struct lock *lock;
+    const void *address;
+    struct lock *lock;  /* NULL where it isn't recorded */
     struct held *again; /* where the thread holds the lock already */
     struct caller caller;
     uint32_t place;
     uint32_t stack;     /* 0 where it has none */
+    enum class class;
     uint8_t mode;
     bool tried, timed;
     bool repeats;       /* it has a time limit, and counts as one without (repeats.c) */
     bool ends_wait;     /* for the mutex of a condition, when the wait for it ends */
+    bool asks_again;    /* it does so, and isn't refused */
     bool patient;       /* not written though it may block: to be written after a second */
     bool again_refused; /* the thread holds the lock, and it isn't one to be acquired again */
     bool waited_for_itself; /* that was written */
@@ -446,7 +452,8 @@ static inline void goes_out_again(const bool *inside)
     if (!inside)                                                                                                       \
     otherwise
 
-void *table(size_t bytes);
+void *mapped(size_t bytes, int protection, int how, int file, off_t from); /* as mmap, which takes no other memory; or NULL */
+void *table(size_t bytes); /* memory of zeros, of which only what is touched is taken; NULL where there is none */
 void table_goes(void *memory, size_t bytes);
 
 /* How a lock is asked for: by a call that may block, by one that doesn't, or by one that blocks for a time. */
@@ -470,7 +477,7 @@ void chains_forked(void);
 /* waiters.c */
 enum { THREAD_NAME_ROOM = 17 };
 /* This thread is about to wait for a condition, and holds locks; the wait is over; or it was left (under the mutex). */
-void waiter_begins(const struct request *request, const void *mutex);
+void waiter_begins(const struct request *request);
 void waiter_ends(struct request *request); /* which may be pending now */
 void waiter_forgotten(struct thread *thread);
 /* A request was written: so are those of the threads that it waits for, if they wait for a condition. Under the mutex. */
@@ -618,8 +625,8 @@ struct marks *object_marks(uint32_t object);
 /* The object's functions can't be unwound: a stack has ended there. */
 void object_ends_stacks(uint32_t object);
 struct marks *object_end_marks(uint32_t object); /* NULL where none has */
-/* The name of the function or variable there, or an empty one; *from is where it begins, and *size how long it is. */
-const char *object_symbol(uint32_t object, uintptr_t address, bool function, uintptr_t *from, uint64_t *size);
+/* The function or variable there: where it begins, how long it is, and its name. False where none is. */
+bool object_symbol(uint32_t object, uintptr_t address, bool function, uintptr_t *from, uint64_t *size, const char **name);
 const char *object_symbol_file(uint32_t object, uintptr_t address);
 /* Whether an object of that file is loaded. */
 bool object_is_known(const char *path);
@@ -640,6 +647,7 @@ extern bool stacks_all;       /* what is held has its stack, too */
 bool stacks_made(void);
 uint32_t stack_of(struct caller caller);
 uint32_t stack_of_held(uint32_t place, struct caller caller);
+uint32_t stack_met(struct caller caller, uint32_t *place);
 void stack_stands(uint32_t number);
 
 /* asked.c */
@@ -724,8 +732,8 @@ void seats_forked(void);
 void write_request(struct request *request);
 void write_request_of(struct request *request); /* of a thread that waits for a condition; under the mutex */
 void write_acquired(struct request *request, struct held *held);
-void write_given_up(struct request *request);
-void write_left(struct thread *thread);
+void write_given_up(void *request); /* a `struct request`, of which the thread counts: it is called aside, too */
+void write_left(void *thread); /* a `struct thread`, as above */
 void write_unlock(struct thread *thread, struct held *held);
 void write_waits_again(struct request *request);
 void write_goes_on(const struct request *request);
@@ -762,8 +770,9 @@ size_t word_escaped(const char *word, char *to, size_t room);
  * and %s for a word as words.c has it, NO_NAME for an empty one.
  */
 void line_put(const char *words, ...) __attribute__((format(printf, 1, 2)));
-void stream_append(bool is_entry); /* the line, which ends with this */
-void write_line(const char *words, ...) __attribute__((format(printf, 1, 2))); /* which is no entry of the verifier's log */
+void stream_append(bool is_entry); /* the line, which ends with this: whether it is an entry of the verifier's log */
+#define write_line(...) (line_put(__VA_ARGS__), stream_append(false))
+#define write_entry(...) (line_put(__VA_ARGS__), stream_append(true))
 uint64_t milliseconds(void); /* by the clock that only goes on */
 bool stream_opens(void);
 bool stream_has_room(void);
@@ -772,7 +781,6 @@ bool stream_is_asked(void);
 void stream_is_answered(void);
 bool stream_has_file(void); /* else their lines are judged alone */
 void count_missed(enum missed what);
-void count_missed_outside(enum missed what);
 bool stream_made(void);
 void stream_forked(void);
 void stream_end(void);
@@ -792,13 +800,10 @@ int status_file(const char *name, int how, mode_t mode); /* in the folder of the
 bool file_may_have(uint64_t size); /* a file that grows over a limit ends the program */
 void status_made(void);
 void status_begins(void); /* this process takes its slot, as one that has the recorder */
-void status_lacks_memory(void); /* the recorder stays off in this process */
-void status_starts(const char *program); /* its name, without folders */
-void status_starts_not(void);
-void status_started(pid_t process, const char *program);
-void status_object(const char *path);
-void status_object_past(const char *path); /* it is opened so that its calls don't come here */
-void status_semaphores(void); /* they are waited for, and aren't recorded */
+/* Whether this process's program has loaded the recorder: LOADED, NOT_LOADED of one that it is about to become, .. */
+void status_loaded(const char *how);
+void status_started(pid_t process, const char *program); /* the process was begun with that program, or is about to be it */
+void status_notes(const char *word, const char *name); /* in a line that begins with the word, once. Under the mutex */
 void count_digits(char *digits);
 void count_failure(enum failure what);
 

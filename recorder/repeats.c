@@ -58,14 +58,8 @@ void repeat_noted(const struct request *request)
         thread->held[i].written |= KEPT_ON;
 }
 
-static void give_up(void *argument)
-{
-    struct request request = {.thread = argument};
-    write_given_up(&request);
-}
-
 void repeat_ends(struct thread *thread)
 {
     thread->repeated = (struct repeated){.times = thread->repeated.times};
-    aside(give_up, thread);
+    aside(write_given_up, &(struct request){.thread = thread});
 }

@@ -31,7 +31,7 @@ static COLD void note_unseen(uintptr_t stack)
         return;
     GOES_INSIDE_OR(stack, return);
     atomic_store(&noted, true);
-    status_semaphores();
+    status_notes(STATUS_SEMAPHORES, "");
 }
 
 static bool begins(struct request *request, sem_t *semaphore, enum asking asking, struct caller caller)
@@ -56,20 +56,15 @@ static int ends(struct request *request, sem_t *semaphore, int answer)
     return answer;
 }
 
-/* As a lock's call does: a request that isn't written yet waits for a second first, or in a steered run for less. */
-static int wait_a_second(struct request *request, sem_t *semaphore)
+static int semaphore_lock(void *semaphore) { return real.sem_wait(semaphore) == 0 ? 0 : errno; }
+static int semaphore_look(void *semaphore) { return real.sem_trywait(semaphore) == 0 ? 0 : EBUSY; }
+static int semaphore_timed(void *semaphore, const struct timespec *limit)
 {
-    if (real.sem_trywait(semaphore) == 0)
-        return 0;
-    struct timespec limit = time_from_now(steers ? STEERED_PATIENCE : PATIENCE);
-    int answer = real.sem_timedwait(semaphore, &limit);
-    if (answer == 0 || errno != ETIMEDOUT)
-        return answer;
-    request_waits(request);
-    if (UNLIKELY(steers))
-        steer_waits(request);
-    return real.sem_wait(semaphore);
+    return real.sem_timedwait(semaphore, limit) == 0 ? 0 : errno;
 }
+
+static const struct way semaphore_way = {
+    SEMAPHORE, EXCLUSIVE, semaphore_lock, semaphore_look, semaphore_timed, semaphore_look};
 
 EXPORT int sem_init(sem_t *semaphore, int shared, unsigned value)
 {
@@ -95,8 +90,11 @@ EXPORT int sem_wait(sem_t *semaphore)
     struct request request;
     if (!begins(&request, semaphore, ASKS, CALLER))
         return real.sem_wait(semaphore);
-    int answer = request.patient ? wait_a_second(&request, semaphore) : real.sem_wait(semaphore);
-    return ends(&request, semaphore, answer);
+    int error = request.patient ? semaphore_look(semaphore) : semaphore_lock(semaphore);
+    if (request.patient && error == EBUSY)
+        error = wait_patiently(&request, &semaphore_way, semaphore);
+    errno = error ? error : errno;
+    return ends(&request, semaphore, error ? -1 : 0);
 }
 
 /* The calls that don't wait for good. */

@@ -1,30 +1,17 @@
 /*
  * The pairs of single locks. A trace tells of types. Whether these very locks were taken both ways, by which threads, and
- * what else was held meanwhile is told by lines of their own:
- *
- *   pair SEAT THREAD AT PLACE HELD ASKED BESIDE..  the thread, as the kernel counts, asked there for the second of these
- *                             locks while it held the first. Each time that a thread did so, it held the others, too
- *   life THREAD MAKER AT      before its first pair: who made the thread, 0 where that isn't known, and when
- *   joined THREAD BY AT       it was joined by that one, and when
- *   many 0                    no further pairs are told of
- *
- * When something was is told by how many threads had been made and joined before. A lock is four words: its number in the
- * trace, 0 where it has none; its serial number, which no other lock has; its type's number; and its mode, with a `t` where
- * it was tried, an `l` where it is asked for with a time limit, a `p` where that is done again and again (repeats.c), and a
- * `w` where it is asked for again as a wait for a condition ends. A held lock has a `u` where it was acquired while the lock
- * was held that is asked for now. One that was held besides is shared where it ever was.
+ * what else was held meanwhile is told by lines of their own (docs/RECORDER.md, "The recorder's file"). When something was
+ * is told by how many threads had been made and joined before.
  *
  * A line comes whenever what is kept of a pair changes (single_pairs.h). So the locks of the last one are those that were
- * held each time. A third thread has a line, with an `m` after the mode of what it asks for; of further ones it isn't told.
- * One of the first two tells its pair again, with an `r` there, when it has made another thread since its last line.
+ * held each time. A third thread has a line; of further ones it isn't told. One of the first two tells its pair again when
+ * it has made another thread since its last line.
  *
  * The table is hashed, and at most half full. A wider one takes its place then; what it has is copied, and the old one stays
- * for those that read it. The widest one has room for 2^21 pairs, which are 64 MiB, and is never more than half full. All
- * tables together are 85 MiB then. The first one is 64 KiB.
+ * for those that read it. The widest one has room for 2^21 pairs, which are 64 MiB. All tables together are 85 MiB then.
  */
 #include "quick.h"
 #include "single_pairs.h"
-
 
 enum { SLOTS_FIRST = 1 << 11, SLOTS_MOST = 1 << 21, WIDER = 4, PAIRS_MOST = 1000000 };
 
@@ -77,14 +64,9 @@ static bool is_copied(struct single_table *wide, const struct single_pair *from)
 {
     uint64_t key = atomic_load_explicit(&from->key, memory_order_relaxed);
     struct single_pair *to = key ? free_slot(wide, key) : NULL;
-    if (!to)
-        return key == 0;
-    for (uint32_t i = 0; i < 2; i++)
-        to->thread[i] = from->thread[i];
-    for (uint32_t i = 0; i < BESIDES; i++)
-        to->beside[i] = from->beside[i];
-    atomic_store_explicit(&to->key, key, memory_order_relaxed);
-    return true;
+    if (to)
+        memcpy(to, from, sizeof *to);
+    return to || key == 0;
 }
 
 /* False where there is no wider table. */

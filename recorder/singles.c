@@ -25,7 +25,7 @@ void singles_forked(void)
     atomic_store(&lives_kept, 0);
     atomic_store(&lives_begun, 0);
     self.has_pairs = false;
-    self.maker = self.grand = 0;
+    self.birth.maker = self.birth.grand = 0;
 }
 
 static void write_life(uint32_t thread, uint32_t maker, uint32_t made_at)
@@ -39,14 +39,15 @@ void life_begins(struct thread *thread)
 {
     if (thread->has_pairs)
         return;
+    const struct birth *birth = &thread->birth;
     thread->has_pairs = true;
-    write_life((uint32_t)gettid(), thread->maker, thread->made_at);
-    if (thread->grand != 0)
-        write_life(thread->maker, thread->grand, thread->maker_at);
+    write_life((uint32_t)gettid(), birth->maker, birth->at);
+    if (birth->grand != 0)
+        write_life(birth->maker, birth->grand, birth->maker_at);
     for (uint32_t i = 0; i < LIVES; i++) {
         if (lives[i].thread == 0) {
             lives[i] = (struct life){pthread_self(), (uint32_t)gettid(), atomic_fetch_add(&lives_begun, 1),
-                thread->maker ? thread->made_at : UINT32_MAX};
+                birth->maker ? birth->at : UINT32_MAX};
             atomic_fetch_add(&lives_kept, 1);
             return;
         }

@@ -47,11 +47,6 @@ static struct word tail_of(const char *from, size_t most)
     return (struct word){from ? from + (length > most ? length - most : 0) : "", length > most ? most : length};
 }
 
-static bool is_word(const char *there, struct word word)
-{
-    return strncmp(there, word.from, word.length) == 0 && there[word.length] == '\0';
-}
-
 /* The slot of the word, or a free one for it. The first one stays free: its number stands for no word. */
 static uint32_t slot_of(struct word word)
 {
@@ -61,7 +56,7 @@ static uint32_t slot_of(struct word word)
     for (uint32_t slot = (uint32_t)(hash >> 40);; slot++) {
         slot = slot % (WORDS - 1) + 1;
         const char *there = atomic_load_explicit(&words[slot], memory_order_acquire);
-        if (!there || is_word(there, word))
+        if (!there || (strncmp(there, word.from, word.length) == 0 && there[word.length] == '\0'))
             return slot;
     }
 }

@@ -1,11 +1,9 @@
 /*
- * Stacks: the callers of a request, as numbers of places. A request that is new has one, since new
- * requests are few. When it is written it is too late to look for the callers of what the thread
- * holds: those are taken with the lock or never. So a place's first acquisitions have their stacks,
- * until as many as DETOUR_STACKS in a row brought no new one: a place in a function that locks for
- * others goes on longer than one that is come to by one way alone. That costs what new stacks cost,
- * and a place that is done with is as quick as without stacks. Where it was asked for, each
- * acquisition has its stack, and takes the long way.
+ * Stacks: the callers of a request, as numbers of places. A request that is new has one. When it is written it is too late
+ * to look for the callers of what the thread holds: those are taken with the lock or never. So a place's first acquisitions
+ * have their stacks, until as many as DETOUR_STACKS in a row brought no new one. A place that is done with is as quick as
+ * without stacks. Where it was asked for, each acquisition has its stack, and takes the long way where that is new.
+ *
  * Equal stacks are one. A stack that is there never changes, so it is found without the mutex.
  */
 #include "recorder.h"
@@ -76,6 +74,20 @@ COLD uint32_t stack_of(struct caller caller)
 {
     bool is_new;
     return stack_found(caller, &is_new);
+}
+
+/* The stack's number where it was met, and where it begins; 0 where it is new, or a steered run may pause there. */
+uint32_t stack_met(struct caller caller, uint32_t *place)
+{
+    uint32_t found[FRAMES_MOST];
+    uint32_t count = stacks ? callers(caller, frames_shown, found) : 0;
+    if (count == 0 || found[0] == 0 || detour_at(found[0]) >= DETOUR_PLANNED)
+        return 0;
+    uint32_t slot = slot_of(found, count);
+    if (atomic_load_explicit(&stacks[slot].count, memory_order_acquire) == 0)
+        return 0;
+    *place = found[0];
+    return slot + 1;
 }
 
 /* As stack_of, of an acquisition at the place; 0 where those there have none any more. */

@@ -48,20 +48,18 @@ static void find_real(void *real_function, const char *name, const char *version
     memcpy(real_function, &found, sizeof found);
 }
 
-static void find_real_functions(void)
+void *mapped(size_t bytes, int protection, int how, int file, off_t from)
 {
-#define FIND(function, version) find_real(&real.function, #function, version);
-    EACH_REAL(FIND)
-}
-
-/* Memory of zeros, of which only what is touched is taken. Without it the recorder stays off. */
-void *table(size_t bytes)
-{
-    void *memory = mmap(NULL, bytes, PROT_READ | PROT_WRITE, MAP_PRIVATE | MAP_ANONYMOUS | MAP_NORESERVE, -1, 0);
+    void *memory = mmap(NULL, bytes, protection, how, file, from);
     if (memory == MAP_FAILED)
         return NULL;
     own_memory(memory, bytes);
     return memory;
+}
+
+void *table(size_t bytes)
+{
+    return mapped(bytes, PROT_READ | PROT_WRITE, MAP_PRIVATE | MAP_ANONYMOUS | MAP_NORESERVE, -1, 0);
 }
 
 void table_goes(void *memory, size_t bytes)
@@ -84,8 +82,7 @@ static bool settings_read(void)
         skipped = skip;
     stacks_all = frames_shown > 1 && getenv("RECORDER_HELD") != NULL;
     semaphores_are_locks = getenv("RECORDER_SEMAPHORES") != NULL;
-    steer_begins();
-    all_slow = WRITES_ALL || stacks_all || steer_is_everywhere();
+    all_slow = steer_begins() || WRITES_ALL;
     if (all_slow)
         asked_page[ASKED_AT] = ASKED_ALWAYS;
     return true;
@@ -140,7 +137,7 @@ static void awake(void)
     if (!tables_made()) {
         semaphores_are_locks = false;
         say_started();
-        status_lacks_memory();
+        status_loaded(LOADED_WITHOUT_MEMORY);
         judge_lacks_memory();
     } else if (stream_made()) {
         *alive = 1;
@@ -157,7 +154,8 @@ void start(void)
     if (atomic_load_explicit(&begun, memory_order_relaxed) || atomic_exchange(&begun, true))
         return;
     self.state = STARTING;
-    find_real_functions();
+#define FIND(function, version) find_real(&real.function, #function, version);
+    EACH_REAL(FIND)
     awake();
     atomic_store(&asleep, !atomic_load(&recording));
     self.state = UNREADY;
@@ -179,16 +177,9 @@ static bool is_on_other_stack(const struct thread *thread, uintptr_t stack)
  */
 static bool has_left(const struct thread *thread, uintptr_t stack)
 {
-    if (thread->state == STARTING || is_aside(stack))
-        return false;
-    if (is_on_other_stack(thread, stack))
+    if (thread->state == STARTING || is_aside(stack) || is_on_other_stack(thread, stack))
         return false;
     return stack >= thread->state || !call_goes_on(thread->state);
-}
-
-static void leave(void *thread)
-{
-    write_left(thread);
 }
 
 /*
@@ -200,7 +191,7 @@ COLD bool thread_opens(struct thread *thread, uintptr_t stack)
     if (thread->state > OPEN) {
         if (!has_left(thread, stack))
             return false;
-        aside(leave, thread);
+        aside(write_left, thread);
     }
     start();
     if (!atomic_load(&recording))

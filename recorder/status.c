@@ -28,8 +28,6 @@ static const char full[] = "\n" STATUS_FULL "\n", full_objects[] = "\n" WORD_OBJ
 
 #define NAME_OF(number, name) name,
 static const char *const failure_names[FAILURES] = {EACH_FAILURE(NAME_OF)};
-static const char loaded[] = " " STATUS_LOADED " " LOADED, not_loaded[] = " " STATUS_LOADED " " NOT_LOADED;
-static const char without_memory[] = " " STATUS_LOADED " " LOADED_WITHOUT_MEMORY;
 static char *status;
 static char *counts[FAILURES]; /* where the process's line has each count; NULL where it has no line */
 
@@ -67,10 +65,9 @@ static void put_at(size_t at, const char *text, size_t length)
  */
 static char *slot_of(pid_t process)
 {
-    char text[1 + STATUS_DIGITS] = {STATUS_PROCESS};
-    uint64_t mark, number = (uint64_t)process;
-    for (size_t i = sizeof text - 1; i > 0; i--, number /= 10)
-        text[i] = "0123456789"[number % 10];
+    char text[2 + STATUS_DIGITS];
+    uint64_t mark;
+    snprintf(text, sizeof text, "%c%0*d", STATUS_PROCESS, STATUS_DIGITS, process);
     memcpy(&mark, text, sizeof mark);
     for (uint32_t i = 0; status && i < SLOTS; i++) {
         char *slot = status + ((uint32_t)process + i) % SLOTS * SLOT_BYTES;
@@ -120,65 +117,40 @@ void status_begins(void)
         return;
     write_name(slot + NAME_AT, " " STATUS_NAME " ", program_name);
     take_counts(slot);
-    memcpy(slot + LOADED_AT, loaded, sizeof loaded - 1);
+    status_loaded(LOADED);
 }
 
 void status_made(void)
 {
     int file = status_file("status", O_RDWR | O_CREAT | O_CLOEXEC, 0666);
-    void *mapped = MAP_FAILED;
     if (file >= 0 && has_size(file))
-        mapped = mmap(NULL, STATUS_BYTES, PROT_READ | PROT_WRITE, MAP_SHARED, file, 0);
+        status = mapped(STATUS_BYTES, PROT_READ | PROT_WRITE, MAP_SHARED, file, 0);
     if (file >= 0)
         close(file);
-    if (mapped == MAP_FAILED)
-        return;
-    status = mapped;
-    own_memory(status, STATUS_BYTES);
-    status_begins();
+    if (status)
+        status_begins();
 }
 
-/* Of this process's program. */
-static void say_loaded(const char how[sizeof loaded])
+void status_loaded(const char *how)
 {
+    static const char word[] = " " STATUS_LOADED " ";
     char *slot = slot_of(getpid());
-    if (slot)
-        memcpy(slot + LOADED_AT, how, sizeof loaded - 1);
+    if (!slot)
+        return;
+    memcpy(slot + LOADED_AT, word, sizeof word - 1);
+    slot[LOADED_AT + sizeof word - 1] = *how;
 }
 
-void status_lacks_memory(void)
-{
-    say_loaded(without_memory);
-}
-
-/*
- * The process is about to become that program. A child of vfork comes here too: nothing may be written but what the
- * processes share.
- */
-void status_starts(const char *program)
-{
-    status_started(getpid(), program);
-    say_loaded(not_loaded);
-}
-
-/* It didn't become it. */
-void status_starts_not(void)
-{
-    say_loaded(loaded);
-}
-
-/* A new process was begun with that program, which may have loaded the recorder by now. */
 void status_started(pid_t process, const char *program)
 {
     char *slot = slot_of(process);
-    const char *slash = strrchr(program, '/');
     if (slot)
-        write_name(slot + STARTED_AT, " " STATUS_STARTED " ", slash && slash[1] ? slash + 1 : program);
+        write_name(slot + STARTED_AT, " " STATUS_STARTED " ", basename(program));
 }
 
 static uint64_t hash_of(const char *word, const char *text)
 {
-    uint64_t hash = 0xcbf29ce484222325u + (unsigned char)word[1]; /* words differ there */
+    uint64_t hash = 0xcbf29ce484222325u + (unsigned char)*word; /* words differ there */
     for (; *text; text++)
         hash = (hash ^ (unsigned char)*text) * 0x100000001b3u;
     return hash | 1;
@@ -215,34 +187,18 @@ static char *object_room(size_t bytes)
     return NULL;
 }
 
-/* Notes an object in a line that begins with the word, once. */
-static void note_object(const char *word, const char *path)
+void status_notes(const char *word, const char *name)
 {
-    if (!status || !is_new(word, path))
+    if (!status || !is_new(word, name))
         return;
-    size_t length = word_escaped(path, NULL, 0), head = strlen(word), whole = head + length + 1;
-    char *room = object_room(whole);
+    const char *between = *name ? " " : "";
+    size_t head = 1 + strlen(word) + strlen(between), length = word_escaped(name, NULL, 0);
+    char *room = object_room(head + length + 1);
     if (!room)
         return;
-    memcpy(room, word, head);
-    word_escaped(path, room + head, length);
-    room[whole - 1] = '\n';
-}
-
-/* It is loaded. Under the mutex. */
-void status_object(const char *path)
-{
-    note_object("\n" WORD_OBJECT " ", path);
-}
-
-void status_object_past(const char *path)
-{
-    note_object("\n" STATUS_PAST " ", path);
-}
-
-void status_semaphores(void)
-{
-    note_object("\n" STATUS_SEMAPHORES, "");
+    stpcpy(stpcpy(stpcpy(room, "\n"), word), between);
+    word_escaped(name, room + head, length);
+    room[head + length] = '\n';
 }
 
 /* Adds one to a number in decimal digits. */

@@ -1,13 +1,9 @@
 /*
- * Where a steered run pauses (steer.h).
+ * Where a steered run pauses (docs/RECORDER.md, "A report that is made to hang").
  *
  * A thread that holds a lock and asks for another at a place of the plan stands there before the real call. Where those that
  * stand wait for one another in a circle, by what they want and what they hold, all of them are let go: they really hang by
- * then. Else a pause ends by itself: after some milliseconds, half as many after every four in vain, and at most a second
- * and a half at one place. It ends early where another thread waits for a mutex of the paused one, which then is in its way.
- *
- * A thread may be held back before its first lock, too, until another one stands at an order of the plan: so orders that
- * are made at different times come together.
+ * then. A pause ends early where another thread waits for a mutex of the paused one, which then is in its way.
  *
  * Threads stand in one table under the recorder's mutex, which is never held while they wait. What a standing thread holds
  * is read from its chain: it is in its call, and its chain stays as it is.
@@ -27,10 +23,9 @@
 
 enum {
     STANDING = 64,
-    PAUSES = 64,        /* in vain, at one place and in one run; and so many milliseconds all of them */
-    CUTS = 20 * PAUSES, /* that ended early */
-    SPENT_MS = 1500,
-    HALVED = 4, /* after so many in vain the next is half as long */
+    PAUSES = 64,     /* in vain, at one place and in one run */
+    SPENT_MS = 1500, /* of all that were made there */
+    HALVED = 4,      /* after so many in vain the next is half as long */
     LOOK_MS = 5,
     MOMENT_US = 1500, /* a thread that was woken, but hasn't run yet, doesn't sleep */
     NOISE_MS = 1500,  /* of all pauses at random of a thread */
@@ -53,7 +48,7 @@ struct standing {
 
 /* What was spent at a place. */
 struct budget {
-    uint32_t vain, cut, spent_ms;
+    uint32_t vain, spent_ms;
 };
 
 bool steers;
@@ -66,65 +61,49 @@ static __thread struct standing *waits_at __attribute__((tls_model("initial-exec
 static __thread uint32_t noise_spent __attribute__((tls_model("initial-exec")));
 static __thread uint32_t noise_seed __attribute__((tls_model("initial-exec")));
 
-/* To who looks on. */
-static void process_shown(void)
-{
-    plan->words_from = (uintptr_t)standing;
-    plan->words_to = (uintptr_t)(standing + STANDING);
-    atomic_store(&plan->process, getpid());
-    atomic_fetch_add(&plan->processes, 1);
-}
-
-void steer_begins(void)
+bool steer_begins(void)
 {
     const char *path = secure_getenv("RECORDER_PLAN");
-    struct {
-        uint64_t mark;
-        uint32_t bytes, orders;
-    } head; /* as the plan begins */
     int file = path && *path ? open(path, O_RDWR | O_CLOEXEC) : -1;
-    bool is_sound = file >= 0 && pread(file, &head, sizeof head, 0) == sizeof head && head.mark == PLAN_MARK
-        && head.bytes == sizeof *plan && head.orders <= PLAN_ORDERS && lseek(file, 0, SEEK_END) == (off_t)sizeof *plan;
-    void *mapped = is_sound ? mmap(NULL, sizeof *plan, PROT_READ | PROT_WRITE, MAP_SHARED, file, 0) : MAP_FAILED;
+    bool is_whole = file >= 0 && lseek(file, 0, SEEK_END) == (off_t)sizeof *plan;
+    plan = is_whole ? mapped(sizeof *plan, PROT_READ | PROT_WRITE, MAP_SHARED, file, 0) : NULL;
     if (file >= 0)
         close(file);
-    if (mapped == MAP_FAILED)
-        return;
-    own_memory(mapped, sizeof *plan);
-    plan = mapped;
-    steers = true;
-    process_shown();
-}
-
-bool steer_is_everywhere(void)
-{
+    steers = plan && plan->mark == PLAN_MARK && plan->orders <= PLAN_ORDERS;
+    steer_forked();
     return steers && plan->noise_ms > 0;
 }
 
 /* Its places. */
 
-static bool is_code(const struct place *place, const struct plan_code *code)
+/* A place by name has no object. */
+static bool is_at(const struct plan_code *code, const char *file, uint32_t object, uint64_t offset)
 {
-    const char *name = place->file ? place->file : place->object ? basename(object_path(place->object)) : "";
-    return (place->file != NULL) == (code->is_named != 0) && place->offset - !place->file == code->offset && *name
-        && strncmp(name, code->name, sizeof code->name) == 0;
+    const char *name = file ? file : object ? basename(object_path(object)) : "";
+    return *name && !file == !code->is_named && offset == code->offset && strncmp(name, code->name, sizeof code->name) == 0;
 }
 
+static bool is_code(const struct place *place, const struct plan_code *code)
+{
+    return is_at(code, place->file, place->object, place->offset - !place->file);
+}
+
+/* Of several functions of the library the first one counts, and what called the last. */
 static bool is_frame(const struct place *place, const struct plan_frame *frame)
 {
-    if (!place->library)
+    const struct place *rest = place;
+    while (rest->library)
+        rest = place_at(rest->rest);
+    if (rest == place)
         return !*frame->rest.name && is_code(place, &frame->code);
-    return *frame->rest.name && is_code(place_at(place->library), &frame->code)
-        && is_code(place_at(place->rest), &frame->rest);
+    return *frame->rest.name && is_code(place_at(place->library), &frame->code) && is_code(rest, &frame->rest);
 }
 
 void steer_place(struct place *place)
 {
-    for (uint32_t i = 0; i < plan->orders && place->detour < DETOUR_LIBRARY; i++) {
-        const struct plan_chain *ask = &plan->order[i].ask, *hold = &plan->order[i].hold;
-        if ((ask->frames && is_frame(place, ask->frame)) || (hold->frames && is_frame(place, hold->frame)))
+    for (uint32_t i = 0; i < plan->orders && place->detour < DETOUR_LIBRARY; i++)
+        if (is_frame(place, plan->order[i].ask.frame) || is_frame(place, plan->order[i].hold.frame))
             place->detour = DETOUR_PLANNED;
-    }
 }
 
 static bool is_chain(const struct plan_chain *chain, const uint32_t *found, uint32_t count)
@@ -139,9 +118,7 @@ static bool is_chain(const struct plan_chain *chain, const uint32_t *found, uint
 static bool is_lock(const struct lock *lock, const struct plan_code *wanted)
 {
     uint32_t object = lock->type->object;
-    return !*wanted->name
-        || (object && object_offset(object, atomic_load(&lock->address)) == wanted->offset
-            && strncmp(basename(object_path(object)), wanted->name, sizeof wanted->name) == 0);
+    return !*wanted->name || is_at(wanted, NULL, object, object_offset(object, atomic_load(&lock->address)));
 }
 
 static bool holds(const struct thread *thread, const struct plan_code *wanted)
@@ -160,32 +137,27 @@ static void count_met(struct plan_met *met)
         atomic_store(&met->thread, PLAN_SEVERAL_THREADS);
 }
 
-/* The orders of the plan that the request is in: PLAN_ORDERS where it is in none. */
-struct arrival {
-    uint32_t ask, hold;
-};
-
-static struct arrival arrives(const struct request *request)
+/*
+ * The order of the plan whose second lock the request is for, and in *hold that whose first lock it is for: PLAN_ORDERS
+ * where it is in none.
+ */
+static uint32_t arrives(const struct request *request, uint32_t *hold)
 {
-    struct arrival arrival = {PLAN_ORDERS, PLAN_ORDERS};
-    uint32_t found[PLAN_FRAMES];
+    uint32_t found[PLAN_FRAMES], ask = *hold = PLAN_ORDERS;
     if (!request->place || detour_at(request->place) != DETOUR_PLANNED || request->again)
-        return arrival;
+        return ask;
     uint32_t count = callers(request->caller, PLAN_FRAMES, found);
     for (uint32_t i = plan->orders; i-- > 0;) {
         struct plan_order *order = &plan->order[i];
         if (is_lock(request->lock, &order->ask_lock) && holds(request->thread, &order->hold_lock)
             && is_chain(&order->ask, found, count)) {
             count_met(&order->asked);
-            arrival.ask = i;
+            ask = i;
         }
-        if (is_lock(request->lock, &order->hold_lock) && is_chain(&order->hold, found, count)) {
-            count_met(&order->held);
-            if (order->holds_back)
-                arrival.hold = i;
-        }
+        if (order->holds_back && is_lock(request->lock, &order->hold_lock) && is_chain(&order->hold, found, count))
+            *hold = i;
     }
-    return arrival;
+    return ask;
 }
 
 /* Who may pause. */
@@ -219,16 +191,6 @@ static bool may_pause(const struct thread *thread)
 }
 
 /* The table. All of these under the mutex. */
-
-static struct standing *stands(const struct request *request, enum where where, uint32_t order)
-{
-    for (struct standing *free = standing; free < standing + STANDING; free++)
-        if (!free->thread) {
-            *free = (struct standing){request->thread, request->lock, request->mode, where, order, 0, 0};
-            return free;
-        }
-    return NULL;
-}
 
 static void futex(_Atomic uint32_t *word, int what, uint32_t value, const struct timespec *time)
 {
@@ -269,37 +231,49 @@ static bool comes_round(struct standing *one, const struct standing *last, uint6
     return false;
 }
 
-/* Those that are held back until a thread stands at another order and wants their lock. */
-static void let_go_for(const struct standing *one)
+/*
+ * Whether one of the two needn't be held back any longer, since the other is there: that one stands at another order and
+ * wants its lock, or is held back there before another lock.
+ */
+static bool is_met(const struct standing *one, const struct standing *other)
 {
-    FOR_EACH_STANDING(other)
-        if (other->where == AT_HOLD && other->order != one->order && other->wanted == one->wanted)
-            let_go(other);
+    bool back = one->where == AT_HOLD, other_back = other->where == AT_HOLD;
+    return one->order != other->order && (back || other_back) && (one->wanted == other->wanted) != (back && other_back);
 }
 
-/* Whether a thread stands at another order and wants the lock, or is held back there: then that one goes, too. */
-static bool has_partner(const struct request *request, uint32_t order)
+/* The thread's record; NULL where there is nothing to stand for, or no room. */
+static struct standing *stands(const struct request *request, enum where where, uint32_t order)
 {
-    bool found = false;
-    FOR_EACH_STANDING(other) {
-        bool is_same = other->wanted == request->lock;
-        if (other->order == order || other->thread == request->thread || is_same == (other->where == AT_HOLD))
-            continue;
-        if (other->where == AT_HOLD)
-            let_go(other);
-        found = true;
+    struct standing *one = standing;
+    bool goes_on = false;
+    while (one->thread && ++one < standing + STANDING)
+        ;
+    if (one == standing + STANDING)
+        return NULL;
+    *one = (struct standing){request->thread, request->lock, request->mode, where, order, 0, 0};
+    if (where == AT_ASK && comes_round(one, one, &(uint64_t){0})) {
+        atomic_fetch_add(&plan->met, 1);
+        goes_on = true;
     }
-    return found;
+    FOR_EACH_STANDING(other)
+        if (is_met(one, other)) {
+            goes_on |= where == AT_HOLD;
+            if (other->where == AT_HOLD)
+                let_go(other);
+        }
+    if (!goes_on)
+        return one;
+    one->thread = NULL;
+    return NULL;
 }
 
 /* Pauses. */
 
 static uint32_t pause_of(const struct budget *budget, uint32_t first)
 {
-    if (first == 0 || budget->vain >= PAUSES || budget->cut >= CUTS || budget->spent_ms >= SPENT_MS)
+    if (first == 0 || budget->vain >= PAUSES || budget->spent_ms >= SPENT_MS)
         return 0;
-    uint32_t length = budget->vain / HALVED < 16 ? first >> budget->vain / HALVED : 0;
-    uint32_t left = SPENT_MS - budget->spent_ms;
+    uint32_t length = first >> budget->vain / HALVED, left = SPENT_MS - budget->spent_ms;
     length = length ? length : 1;
     return length < left ? length : left;
 }
@@ -307,13 +281,13 @@ static uint32_t pause_of(const struct budget *budget, uint32_t first)
 /* Whether another thread waits for a mutex that the thread holds. */
 static bool is_in_the_way(const struct thread *thread)
 {
-    bool is = false;
-    for (uint32_t i = 0; i < thread->count && !is; i++) {
+    for (uint32_t i = 0; i < thread->count; i++) {
         const struct lock *lock = thread->held[i].lock;
         const pthread_mutex_t *mutex = (const void *)atomic_load(&lock->address);
-        is = lock->type->class == MUTEX && mutex && *(const volatile int *)&mutex->__data.__lock == 2;
+        if (lock->type->class == MUTEX && mutex && *(const volatile int *)&mutex->__data.__lock == 2)
+            return true;
     }
-    return is;
+    return false;
 }
 
 static void sleep_on(_Atomic uint32_t *word, uint64_t microseconds)
@@ -359,27 +333,18 @@ static void pauses(struct standing *one, struct budget *budget, uint32_t length)
     }
     ENTERS_OR(return);
     budget->spent_ms += (uint32_t)(now - begun);
-    budget->cut += is_cut;
     budget->vain += !is_cut && !atomic_load(&one->go);
     one->thread = NULL;
 }
 
-/* Stands there and pauses as long as the budget has it, unless it needn't. */
+/* Stands at that order, if it is one, and pauses as long as the budget has it. */
 static void stand(const struct request *request, enum where where, uint32_t order)
 {
     struct budget *budget = where == AT_HOLD ? &before_hold[order] : &before_ask[order];
-    uint32_t length = 0;
-    if (!recorder_enters())
+    if (order == PLAN_ORDERS || !may_pause(request->thread) || !recorder_enters())
         return;
-    bool is_needed = where != AT_HOLD || !has_partner(request, order);
-    struct standing *one = is_needed ? stands(request, where, order) : NULL;
-    if (one && where == AT_ASK && comes_round(one, one, &(uint64_t){0})) {
-        atomic_fetch_add(&plan->met, 1);
-    } else if (one) {
-        if (where == AT_ASK)
-            let_go_for(one);
-        length = pause_of(budget, where == AT_HOLD ? plan->back_ms : plan->pause_ms);
-    }
+    struct standing *one = stands(request, where, order);
+    uint32_t length = one ? pause_of(budget, where == AT_HOLD ? plan->back_ms : plan->pause_ms) : 0;
     if (one && length == 0)
         one->thread = NULL;
     recorder_leaves();
@@ -391,11 +356,9 @@ static void stand(const struct request *request, enum where where, uint32_t orde
 static void make_noise(const struct thread *thread)
 {
     static _Atomic uint32_t nothing;
-    if (noise_seed == 0)
-        noise_seed = (uint32_t)gettid() * 2654435761u ^ (uint32_t)milliseconds();
-    noise_seed = noise_seed * 1664525u + 1013904223u;
-    uint32_t length = (noise_seed >> 8) % (1000 * plan->noise_ms + 1);
-    if (noise_seed >> 31 || noise_spent >= 1000 * NOISE_MS || !may_pause(thread))
+    noise_seed = noise_seed ? noise_seed : (uint32_t)gettid() * 2654435761u ^ (uint32_t)milliseconds();
+    uint32_t length = (uint32_t)rand_r(&noise_seed) % (1000 * plan->noise_ms + 1);
+    if (rand_r(&noise_seed) % 2 || noise_spent >= 1000 * NOISE_MS || !may_pause(thread))
         return;
     noise_spent += length;
     sleep_on(&nothing, length);
@@ -404,15 +367,11 @@ static void make_noise(const struct thread *thread)
 bool steer_asks(const struct request *request)
 {
     struct thread *thread = request->thread;
-    struct arrival arrival = arrives(request);
+    uint32_t hold, ask = arrives(request, &hold);
     if (request->timed || request->repeats)
         return false;
-    if ((arrival.hold < PLAN_ORDERS || arrival.ask < PLAN_ORDERS) && may_pause(thread)) {
-        if (arrival.hold < PLAN_ORDERS)
-            stand(request, AT_HOLD, arrival.hold);
-        if (arrival.ask < PLAN_ORDERS)
-            stand(request, AT_ASK, arrival.ask);
-    }
+    stand(request, AT_HOLD, hold);
+    stand(request, AT_ASK, ask);
     if (plan->noise_ms && thread->count != 0 && !request->again)
         make_noise(thread);
     return thread->count != 0;
@@ -436,13 +395,11 @@ void steer_waits(const struct request *request)
 
 void steer_wait_begins(const struct request *request)
 {
-    struct arrival arrival = arrives(request);
-    if (arrival.ask == PLAN_ORDERS)
+    uint32_t hold, ask = arrives(request, &hold);
+    if (ask == PLAN_ORDERS)
         return;
     ENTERS_OR(return);
-    waits_at = stands(request, AT_WAIT, arrival.ask);
-    if (waits_at)
-        let_go_for(waits_at);
+    waits_at = stands(request, AT_WAIT, ask);
 }
 
 bool steer_wait_pauses(void)
@@ -478,6 +435,10 @@ void steer_forked(void)
 {
     steer_left(NULL);
     made_before = atomic_load(&threads_made_and_joined);
-    if (steers)
-        process_shown();
+    if (!steers)
+        return;
+    plan->words_from = (uintptr_t)standing;
+    plan->words_to = (uintptr_t)(standing + STANDING);
+    atomic_store(&plan->process, getpid());
+    atomic_fetch_add(&plan->processes, 1);
 }

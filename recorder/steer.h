@@ -11,11 +11,8 @@
 
 extern bool steers; /* there is a plan */
 
-/* Reads the plan that the environment names, if any. Before the first place is met. */
-void steer_begins(void);
-
-/* Whether each request may pause, wherever it comes from. */
-bool steer_is_everywhere(void);
+/* Reads the plan that the environment names, if any, before the first place is met. Whether each request may pause by it. */
+bool steer_begins(void);
 
 /* A new place gets its detour where the plan has it. Under the mutex, before anybody sees the place. */
 void steer_place(struct place *place);
@@ -41,7 +38,7 @@ void steer_wait_ends(void);
 /* The thread has left its call by a jump. Under the mutex. */
 void steer_left(const struct thread *thread);
 
-/* The child stands nowhere. */
+/* A process begins, or a child of fork: no thread stands anywhere. It is shown to who looks on. */
 void steer_forked(void);
 
 #pragma GCC visibility pop

@@ -81,8 +81,10 @@ static void put_word(const char *word)
         stream.length += length;
 }
 
-static void put_list(const char *words, va_list list)
+void line_put(const char *words, ...)
 {
+    va_list list;
+    va_start(list, words);
     for (; *words; words++) {
         bool is_wide = words[0] == '%' && words[1] == 'l';
         char byte = *words == '%' ? *(words += 1 + is_wide) : '\0';
@@ -95,23 +97,7 @@ static void put_list(const char *words, va_list list)
         else
             put_digits(is_wide ? va_arg(list, uint64_t) : va_arg(list, uint32_t), byte == 'x' ? 16 : 10);
     }
-}
-
-void line_put(const char *words, ...)
-{
-    va_list list;
-    va_start(list, words);
-    put_list(words, list);
     va_end(list);
-}
-
-void write_line(const char *words, ...)
-{
-    va_list list;
-    va_start(list, words);
-    put_list(words, list);
-    va_end(list);
-    stream_append(false);
 }
 
 /*
@@ -121,17 +107,17 @@ void write_line(const char *words, ...)
 static void opens_to_all(int file)
 {
     struct stat folder;
-    char name[PATH_MOST];
-    memcpy(name, stream.path, name_at);
-    name[name_at] = '\0';
-    if (geteuid() == 0 && stat(name, &folder) == 0 && (folder.st_mode & (S_IROTH | S_ISVTX)) == S_ISVTX)
+    stream.path[name_at] = '\0';
+    bool is_there = geteuid() == 0 && stat(stream.path, &folder) == 0;
+    stream.path[name_at] = '/';
+    if (is_there && (folder.st_mode & (S_IROTH | S_ISVTX)) == S_ISVTX)
         fchmod(file, 0666);
 }
 
 /* Maps the file's next window. False where there is none. */
 static bool window_opens(int flags)
 {
-    void *window = MAP_FAILED;
+    void *window = NULL;
     uint64_t size = stream.offset + WINDOW;
     errno = EFBIG;
     int file = file_may_have(size) ? open(stream.path, O_RDWR | O_CLOEXEC | flags, 0600) : -1;
@@ -140,13 +126,12 @@ static bool window_opens(int flags)
     if (flags & O_CREAT)
         opens_to_all(file);
     if (ftruncate(file, (off_t)size) == 0)
-        window = mmap(NULL, WINDOW, PROT_READ | PROT_WRITE, MAP_SHARED, file, (off_t)stream.offset);
-    if (window != MAP_FAILED && stream.offset == 0 && !all_slow)
+        window = mapped(WINDOW, PROT_READ | PROT_WRITE, MAP_SHARED, file, (off_t)stream.offset);
+    if (window && stream.offset == 0 && !all_slow)
         mmap(asked_page, PAGE_BYTES, PROT_READ | PROT_WRITE, MAP_SHARED | MAP_FIXED, file, 0);
     close(file);
-    if (window == MAP_FAILED)
+    if (!window)
         return false;
-    own_memory(window, WINDOW);
     if (stream.offset == 0)
         stream.first = window;
     else if (stream.end - WINDOW != stream.first)
@@ -343,13 +328,6 @@ void count_missed(enum missed what)
     if (name_at)
         count_digits(stream.counts[what]);
     judge_missed(what);
-}
-
-/* As count_missed, outside the mutex. */
-COLD void count_missed_outside(enum missed what)
-{
-    ENTERS_OR(return);
-    count_missed(what);
 }
 
 static void unmap(void)

@@ -19,7 +19,7 @@ enum { BEGINNINGS = 1024 };
 
 static struct beginning {
     _Atomic bool taken;
-    uint32_t place, maker, at, grand, maker_at;
+    struct birth birth;
     union {
         void *(*posix)(void *);
         thrd_start_t c11;
@@ -40,20 +40,9 @@ static struct beginning begun(struct beginning *given)
 {
     struct beginning beginning = *given;
     atomic_store(&given->taken, false);
-    self.made = beginning.place;
-    self.maker = beginning.maker;
-    self.made_at = beginning.at;
-    self.grand = beginning.grand;
-    self.maker_at = beginning.maker_at;
+    self.birth = beginning.birth;
     errors_of_thread();
     return beginning;
-}
-
-/* The thread tells of its pairs of single locks again, since it has made another thread. */
-static void tell_anew(void)
-{
-    self.serial += 1u << SERIAL_BITS;
-    forget_requests(&self);
 }
 
 /* NULL where the maker isn't to be known: nothing is recorded, or there is no room. */
@@ -66,26 +55,19 @@ static struct beginning *taken_by(struct caller caller, void *argument)
             && !atomic_exchange(&beginnings[i].taken, true))
             found = &beginnings[i];
     if (found) {
-        found->place = place_of(site_or(makes_at, caller));
-        found->maker = (uint32_t)gettid();
-        found->grand = self.maker;
-        found->maker_at = self.made_at;
+        uint32_t place = place_of(site_or(makes_at, caller));
         atomic_fetch_add(&threads_in_making, 1);
-        found->at = atomic_fetch_add(&threads_made_and_joined, 1);
+        uint32_t at = atomic_fetch_add(&threads_made_and_joined, 1);
+        found->birth = (struct birth){place, (uint32_t)gettid(), at, self.birth.at, self.birth.maker};
         found->argument = argument;
-        if (self.serial >> SERIAL_BITS < PAIR_TELLINGS - 1)
-            tell_anew();
+    }
+    /* From here on it tells of its pairs of single locks again. */
+    if (found && self.serial >> SERIAL_BITS < PAIR_TELLINGS - 1) {
+        self.serial += 1u << SERIAL_BITS;
+        forget_requests(&self);
     }
     makes_at = 0;
     return found;
-}
-
-/* The real call has returned. */
-static void is_made(struct beginning *beginning, bool succeeded)
-{
-    atomic_fetch_sub(&threads_in_making, 1);
-    if (!succeeded)
-        atomic_store(&beginning->taken, false);
 }
 
 /* C11's success is POSIX's. MAKE(routine, argument) is the real call. */
@@ -103,7 +85,9 @@ static void is_made(struct beginning *beginning, bool succeeded)
             return make(routine, argument);                                                                            \
         beginning->routine.kind = routine;                                                                             \
         int answer = make(begin_##kind, beginning);                                                                    \
-        is_made(beginning, answer == thrd_success);                                                                    \
+        atomic_fetch_sub(&threads_in_making, 1);                                                                       \
+        if (answer != thrd_success)                                                                                    \
+            atomic_store(&beginning->taken, false);                                                                    \
         return answer;                                                                                                 \
     }
 #define CREATE_POSIX(function, of) real.pthread_create(thread, attributes, function, of)
@@ -112,8 +96,6 @@ CREATES(pthread_create, posix, void *,
     (pthread_t *thread, const pthread_attr_t *attributes, void *(*routine)(void *), void *argument), CREATE_POSIX)
 CREATES(thrd_create, c11, int, (thrd_t *thread, thrd_start_t routine, void *argument), CREATE_C11)
 
-
-/* C11's success is POSIX's. */
 #define JOINS(name, type, answer_type)                                                                                 \
     EXPORT int name(type thread, answer_type *answered)                                                                \
     {                                                                                                                  \

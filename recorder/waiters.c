@@ -27,7 +27,6 @@ struct waiter {
     _Atomic int state;
     struct thread *thread;
     struct request request; /* for the mutex */
-    uintptr_t mutex;
     long number;
     char name[THREAD_NAME_ROOM];
 };
@@ -41,32 +40,26 @@ static bool turns(struct waiter *waiter, int from, int to)
         && atomic_compare_exchange_strong(&waiter->state, &from, to);
 }
 
-/* A free record, if possible the one that the thread had last: who it is stands there. NULL where there is none. */
+/* NULL where no record is free. */
 static struct waiter *waiter_taken(void)
 {
-    struct waiter *waiter = self.last_waiter;
-    if (!waiter || !turns(waiter, FREE, BEGINS)) {
-        waiter = waiters;
-        while (!turns(waiter, FREE, BEGINS))
-            if (++waiter == waiters + WAITERS)
-                return NULL;
-    }
-    if (waiter != self.last_waiter || waiter->thread != &self) {
-        waiter->thread = &self;
-        waiter->number = thread_number(&self);
-        thread_name(&self, waiter->name);
-    }
+    struct waiter *waiter = waiters;
+    while (!turns(waiter, FREE, BEGINS))
+        if (++waiter == waiters + WAITERS)
+            return NULL;
+    waiter->thread = &self;
+    waiter->number = thread_number(&self);
+    thread_name(&self, waiter->name);
     return waiter;
 }
 
-void waiter_begins(const struct request *request, const void *mutex)
+void waiter_begins(const struct request *request)
 {
     struct waiter *waiter = stream_has_file() || judge_watches_waits() ? waiter_taken() : NULL;
     if (!waiter)
         return;
     waiter->request = *request;
-    waiter->mutex = (uintptr_t)mutex;
-    self.waiter = self.last_waiter = waiter;
+    self.waiter = waiter;
     atomic_fetch_add(&unwritten, 1);
     atomic_store(&waiter->state, WAITS);
 }
@@ -122,13 +115,8 @@ static bool is_waited_for(const struct thread *thread)
 /* A thread that has left its wait by a jump may have ended since. */
 static bool is_there(const struct waiter *waiter)
 {
-    return atomic_load(&waiter->request.lock->address) == waiter->mutex
+    return atomic_load(&waiter->request.lock->address) == (uintptr_t)waiter->request.address
         && syscall(SYS_tgkill, getpid(), waiter->number, 0) == 0;
-}
-
-static bool is_to_be_written(const struct waiter *waiter)
-{
-    return is_there(waiter) && is_waited_for(waiter->thread);
 }
 
 /* Where one is written, others may come to be waited for. */
@@ -138,7 +126,7 @@ COLD static void write_waiters(void)
         struct waiter *waiter = &waiters[i++];
         if (!turns(waiter, WAITS, LOOKED_AT))
             continue;
-        bool is_due = is_to_be_written(waiter);
+        bool is_due = is_there(waiter) && is_waited_for(waiter->thread);
         if (is_due) {
             write_request_of(&waiter->request);
             atomic_fetch_sub(&unwritten, 1);
@@ -165,8 +153,7 @@ void waiters_each(void (*function)(const struct request *request))
 void waiters_forked(void)
 {
     for (uint32_t i = 0; i < WAITERS; i++)
-        if (atomic_load(&waiters[i].state) != FREE)
-            atomic_store(&waiters[i].state, FREE);
+        atomic_store(&waiters[i].state, FREE);
     atomic_store(&unwritten, 0);
-    self.waiter = self.last_waiter = NULL;
+    self.waiter = NULL;
 }

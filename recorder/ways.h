@@ -117,17 +117,25 @@ QUICK bool quick_call(const struct way *way, void *address, const struct quick *
 
 /*
  * The thread is inside already. The call comes from a place that isn't told, or not alone: its callers are looked at. Or it
- * isn't remembered. That it is looked for here keeps the quick way free of such calls: so it has few registers to save.
+ * isn't remembered. That it is looked for here keeps the quick way free of such calls: so it has few registers to save. Where
+ * each acquisition is to have its stack, one that was met goes this way, too.
  */
 static __attribute__((noinline)) int acquire_from_afar(const struct way *way, void *address, uintptr_t pc,
     uintptr_t stack, uintptr_t base)
 {
     struct quick quick = {.thread = &self};
-    uint32_t place = place_passed((struct caller){pc, stack, base});
+    struct caller caller = {pc, stack, base};
+    uint32_t place = 0, met = 0;
+    if (UNLIKELY(stacks_all))
+        met = stack_met(caller, &place);
+    else
+        place = place_passed(caller);
     if (UNLIKELY(!place || !quick_is_known(&quick, address, way->mode, place, true))) {
         goes_outside(quick.thread);
         return acquire_slowly(way, address, pc, stack, base);
     }
+    if (UNLIKELY(met))
+        held_has_stack(quick.held, met);
     int answer;
     return LIKELY(quick_call(way, address, &quick, stack, &answer)) ? answer
                                                                    : acquire_on(way, address, pc, stack, base, answer);

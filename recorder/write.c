@@ -1,5 +1,5 @@
 /*
- * The lines of a stream.
+ * The lines of a stream. docs/RECORDER.md ("The recorder's file") has their words.
  *
  * Why the lines are a legal history of what the program did. Each line is written in one critical section of the
  * recorder's mutex: `check` before the real call (after it, where a wait for a condition gets its mutex back); `lock`
@@ -24,10 +24,6 @@
  *     (waiters.c). The wait can't end without the mutex, and nothing else of the thread stands in between.
  *   - A trace has a limit of locks. A chain with a lock that has no number there is written without it. Such a lock is counted:
  *     the recording isn't clean.
- *
- * A request that was reported teaches no order, and is reported once. So after a report an order may be missing that the
- * program makes by another chain, too. The commonest of these is kept: what is asked for after one lock alone is written so
- * once (`alone`).
  */
 #include "quick.h"
 
@@ -37,10 +33,7 @@
 #include <string.h>
 #include <sys/syscall.h>
 
-/*
- * `thread SEAT NAME PLACE NUMBER`: its name, `-` where it has its program's; where it was made, 0 where that isn't known;
- * and its number as the kernel counts threads.
- */
+/* It is told without a name where it has its program's. */
 void write_thread(const struct thread *thread)
 {
     char name[THREAD_NAME_ROOM];
@@ -50,7 +43,7 @@ void write_thread(const struct thread *thread)
     for (char *at = name; *at; at++)
         if (*at <= ' ' || *at > '~' || *at == '&' || *at == '\\')
             *at = '_';
-    uint32_t made = place_number(thread->made);
+    uint32_t made = place_number(thread->birth.place);
     write_line(WORD_THREAD " %u %s %u %lu", thread->seat, name, made, (uint64_t)thread_number(thread));
 }
 
@@ -91,8 +84,7 @@ static void write_check(const struct thread *thread, uint32_t lock, uint8_t mode
 
 static void write_lock(const struct thread *thread, uint32_t lock)
 {
-    line_put(WORD_LOCK " %u %u", thread->seat, lock);
-    stream_append(true);
+    write_entry(WORD_LOCK " %u %u", thread->seat, lock);
     judge_got(thread, lock);
 }
 
@@ -133,15 +125,6 @@ static void chain_read(struct thread *thread)
     }
 }
 
-/* Writes what the thread holds and the stream doesn't have yet, oldest first. */
-static void write_chain(struct thread *thread)
-{
-    chain_read(thread);
-    for (size_t i = 0; i < chain.count; i++)
-        if (!chain.links[i].written)
-            write_held(thread, &thread->held[chain.at[i]]);
-}
-
 static void write_asked(struct request *request, uint32_t number, bool is_due)
 {
     struct thread *thread = request->thread;
@@ -164,7 +147,7 @@ static void write_time(void)
     write_line(WORD_TIME " %lu", time);
 }
 
-/* Writes the lines that the request needs, where they have room. */
+/* Writes the lines that the request needs, where they have room. Of one that can't be told in a trace there is a note. */
 static void write_due(struct request *request)
 {
     struct thread *thread = request->thread;
@@ -179,10 +162,12 @@ static void write_due(struct request *request)
     bool waits = request->patient || WRITES_ALL;
     size_t lines = wit_condensed_lines(pairs, chain.links, chain.count, number, type, waits, chain.lines, HELD_MOST + 1);
     for (size_t i = 0; i < lines; i++)
-        if (chain.lines[i].kind == WIT_LINE_ASKS)
-            write_asked(request, number, is_due);
-        else
+        if (chain.lines[i].kind != WIT_LINE_ASKS)
             write_held(thread, &thread->held[chain.at[chain.lines[i].link]]);
+        else if (request->again_refused)
+            write_note(WORD_AGAIN, thread, number, request->place);
+        else
+            write_asked(request, number, is_due);
     /* From here on other threads may leave out what these lines tell. */
     wit_condensed_ask(pairs, chain.links, chain.count, number, type, waits, chain.lines, HELD_MOST + 1);
 }
@@ -240,23 +225,24 @@ static void give_up(struct thread *thread)
     if (number == 0)
         return;
     thread->asked = 0;
-    line_put(WORD_GIVEUP " %u %u", thread->seat, number);
-    stream_append(true);
+    write_entry(WORD_GIVEUP " %u %u", thread->seat, number);
     judge_gave_up(thread, number);
     number_stands_no_more(thread, number);
 }
 
 /* After the real call, which didn't get the lock. */
-COLD void write_given_up(struct request *request)
+COLD void write_given_up(void *argument)
 {
+    struct request *request = argument;
     ENTERS_OR(return);
     give_up(request->thread);
     request->pending = false;
 }
 
 /* The thread has left a call before its end: what that call asked for is given up. */
-COLD void write_left(struct thread *thread)
+COLD void write_left(void *argument)
 {
+    struct thread *thread = argument;
     ENTERS_OR(return);
     count_failure(FAILED_JUMPED);
     waiter_forgotten(thread);
@@ -269,34 +255,24 @@ COLD void write_left(struct thread *thread)
 COLD void write_unlock(struct thread *thread, struct held *held)
 {
     ENTERS_OR(return);
-    line_put(WORD_UNLOCK " %u %u %c", thread->seat, held->number, letter_of(held->mode));
-    stream_append(true);
+    write_entry(WORD_UNLOCK " %u %u %c", thread->seat, held->number, letter_of(held->mode));
     judge_released(thread, held->number, held->mode);
     number_stands_no_more(thread, held->number);
 }
 
 /*
- * The thread waits for a lock that it holds, and what it holds is written before: `again SEAT LOCK PLACE` where it can't
- * have it twice. As a reader it has waited for a second, and asks for it; when it gets it, the stream has it as given
- * up, since what is acquired again isn't in it.
+ * The thread waits for a lock that it holds, and what it holds is written before. As a reader it has waited for a second,
+ * and asks for it; when it gets it, the stream has it as given up, since what is acquired again isn't in it.
  */
 COLD void write_waits_again(struct request *request)
 {
-    struct thread *thread = request->thread;
     ENTERS_OR(return);
     if (request->again_refused)
         count_missed(MISSED_AGAIN);
-    SEATED_OR(thread, return);
-    write_chain(thread);
-    if (!(request->again->written & IS_WRITTEN))
-        return;
-    if (request->again_refused)
-        write_note(WORD_AGAIN, thread, request->again->number, request->place);
-    else
-        write_asked(request, request->again->number, true);
+    write_due(request);
 }
 
-/* `went SEAT LOCK`: it waits for that lock no more, which another thread has released. */
+/* It waits for that lock no more, which another thread has released. */
 COLD void write_goes_on(const struct request *request)
 {
     const struct held *held = request->again;
@@ -305,7 +281,7 @@ COLD void write_goes_on(const struct request *request)
         write_line(WORD_WENT " %u %u", request->thread->seat, held->number);
 }
 
-/* `foreign SEAT LOCK PLACE`: the thread releases what it doesn't hold. One line for each place; all are counted. */
+/* The thread releases what it doesn't hold. There is one line for each place; all are counted. */
 COLD void write_released_by_another(struct thread *thread, struct lock *lock, uint32_t place)
 {
     ENTERS_OR(return);
@@ -328,7 +304,6 @@ static bool is_first(struct marks *marks)
     return written && !*written && (*written = 1);
 }
 
-/* `object NUMBER PATH`; then `called NUMBER NAME` where it is told by another name. */
 static void write_object(uint32_t object)
 {
     if (!object || !is_first(object_marks(object)))
@@ -338,12 +313,7 @@ static void write_object(uint32_t object)
         write_line(WORD_CALLED " %u %s", object, object_called(object));
 }
 
-/*
- * `place NUMBER OBJECT OFFSET FUNCTION OFFSET-IN-FUNCTION`: of the call's last byte, not of the return address. After `blind
- * OBJECT` a stack has ended in the object, since its functions can't be unwound.
- * `either NUMBER PLACE PLACE`: the first one is in the library, and the second one counts where it says nothing.
- * `site NUMBER FILE LINE FUNCTION`: a place by name.
- */
+/* An offset is that of the call's last byte, not of the return address. */
 void write_place(uint32_t number)
 {
     const struct place *place = place_at(number);
@@ -364,20 +334,17 @@ void write_place(uint32_t number)
         (place->object ? place->offset : place->pc) - 1, place->name, *place->name ? place->within - 1 : 0);
 }
 
-/*
- * OBJECT OFFSET-IN-FILE VARIABLE OFFSET-IN-VARIABLE FILE of a lock that stands in an object. FILE is given where other
- * files have a variable of that name.
- */
+/* The variable that a lock in an object stands in. */
 static void put_variable(uint32_t object, uintptr_t address)
 {
     uintptr_t from = address;
-    uint64_t size;
-    const char *name = object_symbol(object, address, false, &from, &size);
+    const char *name = "";
+    object_symbol(object, address, false, &from, NULL, &name);
     line_put(" %u %lx %s %lx %s", object, object_offset(object, address), name, address - from,
         object_symbol_file(object, address));
 }
 
-/* `crowded NUMBER`: the type of that number counts as one without an offset. One that has no number gets it with that. */
+/* A type that has no number yet gets it with that. */
 void write_crowded(struct type *type)
 {
     if (*mark(&type->marks) != 0 && type_fits(type) && stream_has_room())
@@ -392,10 +359,6 @@ static uint32_t places_in(const uint32_t places[DEPTH_MOST])
     return count;
 }
 
-/*
- * `type NUMBER variable` and the variable of its first lock, `type NUMBER named NAME`, `type NUMBER part OFFSET COUNT`
- * and so many places of a first use, `type NUMBER met` or `type NUMBER made`; then the places that it comes from.
- */
 void write_type(struct type *type)
 {
     uint32_t object = type->object;
@@ -422,7 +385,6 @@ void write_type(struct type *type)
         write_crowded(type);
 }
 
-/* `init SEAT CLASS FLAGS TYPE`, its name's number among those of its type, and the variable that it stands in. */
 void write_init(struct thread *thread, struct lock *lock)
 {
     struct type *type = lock->type;

@@ -17,10 +17,10 @@ if wanted deadlock; then
  seat N waits for "journal" held by seat N
  seat N waits for "pool" held by seat N
 circle:
-exclusive sleep mutex "pool" (pool) r = 0 @ hangs(commit):0
-seat N, thread N, waits @ hangs(checkpoint):0 and holds:
-seat N, thread N, waits @ hangs(commit):0 and holds:
-shared rw "journal" (journal) r = 0 @ hangs(checkpoint):0
+exclusive sleep mutex "pool" r = 0 in commit (hangs)
+seat N, thread N, waits in checkpoint (hangs) and holds:
+seat N, thread N, waits in commit (hangs) and holds:
+shared rw "journal" r = 0 in checkpoint (hangs)
 END
     for word in new known; do
         hangs $word exit=3
@@ -39,7 +39,7 @@ END
     hangs short exit=3 && [ "$(cat out)" = ended ] && ! grep -q '^circle:$' err
     tell deadlock "a wait that ends within a second" $?
     hangs long exit=3 && [ "$(cat out)" = ended ] && [ "$(grep -c '^circle:$' err)" -eq 1 ] &&
-        told <err | grep -q '^seat [0-9]*, thread [0-9]*, waits with a time limit @ hangs(commit):0 and holds:$'
+        told <err | grep -q '^seat [0-9]*, thread [0-9]*, waits with a time limit in commit (hangs) and holds:$'
     tell deadlock "a circle that ends by itself is told, and the program goes on" $?
     hangs new "" 3
     [ $? -eq 137 ] && ! grep -q '^circle:$' err
@@ -49,8 +49,8 @@ END
     for word in signalled unsignalled timed known two; do
         WITNESS=1 WITNESS_ON_DEADLOCK=exit=3 timeout -s KILL 100 ./conditions $word >out 2>err
         [ $? -eq 3 ] && [ "$(grep -c '^circle:$' err)" -eq 1 ] && grep -q '^ seat [0-9]* waits for "inner" held by seat [0-9]*$' err &&
-            told <err | grep -A 1 '^seat [0-9]*, thread [0-9]*, waits @ conditions(keep):0 and holds:$' |
-            grep -q '^exclusive sleep mutex "outer" (outer) r = 0 @ conditions(keep):0$'
+            told <err | grep -A 1 '^seat [0-9]*, thread [0-9]*, waits in keep (conditions) and holds:$' |
+            grep -q '^exclusive sleep mutex "outer" r = 0 in keep (conditions)$'
         tell deadlock "a circle with a wait for a condition: $word" $?
     done
     WITNESS=1 WITNESS_ON_DEADLOCK=exit=3 timeout -s KILL 100 ./conditions ends >out 2>err && [ "$(cat out)" = ended ] && [ ! -s err ]

@@ -31,8 +31,8 @@ static void reported(const struct witness_report *report, void *data)
         pthread_equal(pthread_self(), asker) ? "the asking" : "another");
     printf("text begins \"%.20s\" and ends with %s\n", report->text,
         report->text[strlen(report->text) - 1] == '\n' ? "a newline" : "something else");
-    printf("held at %s, asked at %s\n", strstr(report->held, "(checkpoint)") ? "checkpoint" : report->held,
-        strstr(report->asked, "(checkpoint)") ? "checkpoint" : report->asked);
+    printf("held at %s, asked at %s\n", strstr(report->held, "checkpoint+0x") == report->held ? "checkpoint" : report->held,
+        strstr(report->asked, "checkpoint+0x") == report->asked ? "checkpoint" : report->asked);
     printf("the lock is %s\n", pthread_mutex_trylock(&pool) == 0 ? "free yet" : "taken");
     pthread_mutex_lock(&inner);
     pthread_mutex_unlock(&inner);

@@ -63,6 +63,12 @@ if wanted packages; then
     WITNESS=$program "$top/tools/install" "$prefix" >installed.out 2>&1
     case $? in 0 | 3) true ;; *) cat installed.out && false ;; esac
     tell packages "all is installed" $?
+    cp "$top/recorder/test/trees.c" . && "${CC:-cc}" -g -DLIBRARY -shared -fPIC -o libtrees.so trees.c -pthread &&
+        "${CC:-cc}" -g -o trees trees.c ./libtrees.so -Wl,-rpath,"$work" -pthread &&
+        echo 'libtrees.so "tree_new" in "tree_clone"' >"$prefix/share/witness/known/test.known" &&
+        "$prefix/bin/record" -- ./trees 2>&1 | tail -n 1 >told &&
+        echo 'record: nothing to report; 1 known of libtrees.so' | diff - told && [ -s "$prefix/share/witness/known/libavcodec.known" ]
+    tell packages "right orders of libraries, by a list that stands there" $?
     cp "$top/recorder/test/reversal.c" .
     for needed in pkg-config cmake meson; do
         if ! command -v $needed >/dev/null; then

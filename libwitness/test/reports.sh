@@ -40,7 +40,7 @@ fi
 if wanted acts; then
     compile condhang $linked
     WITNESS=1 WITNESS_ON_REPORT=exit=3 timeout 100 ./condhang 2>err
-    [ $? -eq 3 ] && told <err | grep -q '^ 2nd "inner" (inner, sleep mutex) @ condhang(main):0$'
+    [ $? -eq 3 ] && told <err | grep -q '^ 2nd "inner" (sleep mutex) in main (condhang)$'
     tell acts "before a wait for a condition" $?
 fi
 

@@ -20,7 +20,7 @@ if wanted ways; then
     told <err | diff "$here/reversal.want" -
     tell ways "a linked program with AddressSanitizer and UBSan" $?
     compile reversal -fsanitize=thread $linked && WITNESS=1 ./reversal 2>err
-    told <err | sed -n '/^lock order reversal:$/,$p' | grep -v '^ *libtsan\|^ThreadSanitizer' | diff "$here/reversal.want" -
+    told <err | sed -n '/^lock order reversal:$/,$p' | grep -v '(libtsan[^ ]*)$\|^ThreadSanitizer' | diff "$here/reversal.want" -
     tell ways "a linked program with ThreadSanitizer, whose own calls are passed over" $?
     compile hook $linked && ./hook >out 2>err
     diff "$here/hook.want" out
@@ -37,7 +37,7 @@ if wanted ways; then
     compile byname $linked && WITNESS=1 ./byname 2>err >out
     head -n 5 "$top/recorder/test/byname.want" | sed 's/(log\.rs)/(log.rs:8)/g' >byname.want && head -n 5 err | diff byname.want - &&
         grep -q '^ a_100%?bank\.py:21(audit)$' err && grep -q '^ 2nd "journal" (journal, sleep mutex) @ byname\.c:62$' err &&
-        grep -q '^ 1st "plain" (plain, sleep mutex) @ byname+0x[0-9a-f]*(main):0$' err
+        grep -q '^ 1st "plain" (sleep mutex) in main+0x[0-9a-f]* (byname)$' err
     tell ways "places and types by name" $?
 fi
 

@@ -96,6 +96,7 @@ bool is_current(const struct sources *sources, const char *file)
     if (!is_library(file))
         is = is && !is_later_in(sources->folder, "format.h", true, &found) &&
             !is_later_in(sources->folder, "label.h", true, &found) &&
+            !is_later_in(sources->folder, "code_words.h", true, &found) &&
             !is_later_in(sources->folder, "witness.h", true, &found);
     if (is && is_library(file) && !*sources_of(file))
         is = !has_later_library(sources, &found);

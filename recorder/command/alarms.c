@@ -1,9 +1,11 @@
 #include "alarms.h"
 
 #include <stdio.h>
+#include <stdlib.h>
 #include <string.h>
 
 #include "memory.h"
+#include "place_words.h"
 
 const struct alarms_wanted alarms_usual = {.least = GRADE_ONE_THREAD};
 
@@ -72,9 +74,12 @@ static void write_unknown(FILE *to, enum unknown unknown)
 /* Where the orders of the circle were taken that aren't the report's. */
 static void write_elsewhere(FILE *to, const struct alarm *alarm)
 {
-    const char *before = !alarm->has_own ? "; taken @ " : alarm->steps > 2 ? "; the others @ " : "; the other way @ ";
-    for (size_t i = 0; i < alarm->elsewheres; i++)
-        fprintf(to, "%s%s", i > 0 ? ", " : before, alarm->elsewhere[i]);
+    const char *before = !alarm->has_own ? "; taken" : alarm->steps > 2 ? "; the others" : "; the other way";
+    for (size_t i = 0; i < alarm->elsewheres; i++) {
+        char *place = i > 0 ? place_name(alarm->elsewhere[i]) : place_told(alarm->elsewhere[i]);
+        fprintf(to, "%s %s", i > 0 ? "," : before, place);
+        free(place);
+    }
 }
 
 static void write_alarm(FILE *to, const struct alarm *alarm)

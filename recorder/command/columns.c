@@ -113,6 +113,8 @@ void columns_of_labels(struct declared *declared)
             count_label(&labels, declared, i);
     for (uint32_t i = 1; i < declared->types; i++) {
         const char *label = declared->type[i].label;
+        if (label && label_column(label) > 0)
+            declared->type[i].column = (uint32_t)strtoul(label + label_column(label) + 1, NULL, 10);
         char *plain = label && label_column(label) > 0 ? without_column(label) : NULL;
         if (plain && map_find_text(&labels, plain) != SIZE_MAX)
             declared->type[i].label = texts_copy(declared->texts, plain, strlen(plain));

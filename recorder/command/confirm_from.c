@@ -8,6 +8,7 @@
 #include "json_read.h"
 #include "memory.h"
 #include "object_file.h"
+#include "place_words.h"
 #include "plan.h"
 #include "telling.h"
 #include "usage.h"
@@ -110,7 +111,10 @@ static const char *about(const struct value *report, struct texts *texts)
     while (held && held->next)
         held = held->next;
     const char *first = text_of(held, "lock"), *last = text_of(asked, "lock"), *site = text_of(asked, "site");
-    return texts_say(texts, "\"%s\" and \"%s\" @ %s", first ? first : "?", last ? last : "?", site ? site : "?:0");
+    char *place = place_told(site);
+    const char *about = texts_say(texts, "\"%s\" and \"%s\" %s", first ? first : "?", last ? last : "?", place);
+    free(place);
+    return about;
 }
 
 static void read_types(struct reading *reading, struct subject *subject, const struct value *report)

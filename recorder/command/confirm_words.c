@@ -5,6 +5,7 @@
 #include <string.h>
 
 #include "memory.h"
+#include "place_words.h"
 
 static void add_place(struct counted_place *place, const struct plan_met *met)
 {
@@ -25,9 +26,12 @@ void counted_adds(struct counted *counted, const struct plan *plan)
 static void write_thread(FILE *to, const struct hung_thread *thread)
 {
     fprintf(to, "thread %ld ", thread->thread);
+    char *took = place_told(thread->took_at), *wants = place_told(thread->wants_at);
     if (thread->took)
-        fprintf(to, "took \"%s\" @ %s and ", thread->took, thread->took_at);
-    fprintf(to, "waits for \"%s\" @ %s", thread->wants, thread->wants_at);
+        fprintf(to, "took \"%s\" %s and ", thread->took, took);
+    fprintf(to, "waits for \"%s\" %s", thread->wants, wants);
+    free(took);
+    free(wants);
 }
 
 char *hung_text(const struct hang *hang, unsigned run)
@@ -63,8 +67,9 @@ static void write_times(FILE *to, const struct planned *planned, const struct co
 {
     for (uint32_t i = 0; i < planned->plan.orders; i++) {
         unsigned long times = counted->asked[i].times;
-        fprintf(to, "%s@ %s %s%lu time%s", i ? ", " : "", planned->ask_site[i], i ? "" : "was reached ", times,
-            times == 1 ? "" : "s");
+        char *place = place_told(planned->ask_site[i]);
+        fprintf(to, "%s%s %s%lu time%s", i ? ", " : "", place, i ? "" : "was reached ", times, times == 1 ? "" : "s");
+        free(place);
     }
     if (counted->met)
         fprintf(to, ", crosswise %lu time%s, and the threads went on", counted->met, counted->met == 1 ? "" : "s");
@@ -76,7 +81,9 @@ static void write_why(FILE *to, const struct planned *planned, const struct coun
 {
     for (uint32_t i = 0; i < planned->plan.orders; i++)
         if (counted->asked[i].times == 0) {
-            fprintf(to, "@ %s was never reached", planned->ask_site[i]);
+            char *place = place_told(planned->ask_site[i]);
+            fprintf(to, "%s was never reached", place);
+            free(place);
             return;
         }
     long thread = lone_thread(planned, counted);

@@ -80,6 +80,9 @@ bool entry_call(const struct entry *entry, uint64_t *line, uint64_t *column);
 /* The name with those of the classes and namespaces around it, as a text of one's own. */
 char *entry_whole_name(const struct entry *entry, const char *own);
 
+/* Whether it is so of any unit of compilation. */
+bool debug_info_any_unit(
+    const struct debug_info *info, bool (*is)(const struct entry *unit, const void *context), const void *context);
 /* The unit of compilation that has the address in its code. */
 bool debug_info_unit(struct debug_info *info, uint64_t address, struct entry *unit);
 /*

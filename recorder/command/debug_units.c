@@ -124,6 +124,15 @@ void debug_info_end(struct debug_info *info)
     free(info);
 }
 
+bool debug_info_any_unit(
+    const struct debug_info *info, bool (*is)(const struct entry *unit, const void *context), const void *context)
+{
+    for (size_t i = 0; i < info->units; i++)
+        if (is(&info->unit[i].entry, context))
+            return true;
+    return false;
+}
+
 bool debug_info_unit(struct debug_info *info, uint64_t address, struct entry *unit)
 {
     if (libdw.unit_at(info->handle, address, unit))

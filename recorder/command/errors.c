@@ -1,5 +1,8 @@
 #include "errors.h"
 
+#include "place_words.h"
+
+#include <stdlib.h>
 #include <string.h>
 
 /* What is said of each before the lock's name. The place is that of the call, or where the lock was taken. */
@@ -31,7 +34,10 @@ void tell_errors(struct process *process)
         if (!text)
             continue;
         run->errors++;
-        say(&run->output, "%s: %s \"%s\" @ %s", process->name, text, event->name ? event->name : "",
-            event->site ? event->site : "?:0");
+        char *place = place_told(event->site);
+        char *lock = lock_told_at(&process->notes, event->name ? event->name : "", event->site ? event->site : "");
+        say(&run->output, "%s: %s %s %s", process->name, text, lock, place);
+        free(lock);
+        free(place);
     }
 }

@@ -64,13 +64,13 @@ static bool is_among(const struct reports *reports, const struct report *report)
     return false;
 }
 
-/* What is reported without the ignore file and not with it. */
+/* What is reported where nothing is silenced, and not otherwise. */
 static void take_silenced(struct process *process, struct found *found)
 {
     struct reports all = {0};
-    if (found->notes.matches == 0)
+    if (found->notes.matches == 0 && found->notes.libraries == 0)
         return;
-    replay_without_ignore(process->run, process->recording, &all, &found->silenced_notes);
+    replay_with(process->run, process->recording, SILENCE_NOTHING, &all, &found->silenced_notes);
     grade_reports(&all, process->run->settings.grader, false);
     for (size_t i = 0; i < all.count; i++) {
         struct report *report = &all.report[i];

@@ -83,16 +83,20 @@ static struct code_place code_place_of(struct sites *sites, const struct place *
     return place->kind == PLACE_CALL ? code_place_in(sites, place->object, place->offset) : (struct code_place){0};
 }
 
-/* The calls up to the first one that can't be found again. */
+/*
+ * The calls up to the first one that can't be found again. Of several functions of the library the first one counts, and what
+ * called the last.
+ */
 static void add_calls(struct frames *frames, struct sites *sites, const uint32_t *number, size_t count)
 {
     const struct declared *declared = sites->declared;
     for (size_t i = 0; i < count && frames->calls < CALLS_MOST; i++) {
-        const struct place *place = place_of(declared, number[i]);
+        const struct place *place = place_of(declared, number[i]), *rest = place;
+        while (rest->kind == PLACE_PAIR)
+            rest = place_of(declared, rest->rest);
         struct call call = {.code = code_place_of(sites, place)};
         if (place->kind == PLACE_PAIR)
-            call = (struct call){code_place_of(sites, place_of(declared, place->library)),
-                code_place_of(sites, place_of(declared, place->rest))};
+            call = (struct call){code_place_of(sites, place_of(declared, place->library)), code_place_of(sites, rest)};
         if (!call.code.object || (place->kind == PLACE_PAIR && !call.rest.object))
             return;
         frames->call[frames->calls++] = call;

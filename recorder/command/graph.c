@@ -9,6 +9,7 @@
 
 #include "files.h"
 #include "memory.h"
+#include "place_words.h"
 #include "replay.h"
 #include "usage.h"
 #include "written.h"
@@ -41,7 +42,9 @@ static void write_order(FILE *to, const struct order *order)
     fputs("\" -> \"", to);
     write_escaped(to, order->to);
     fputs("\" [label=\" ", to);
-    write_escaped(to, order->site ? order->site : "");
+    char *place = place_name(order->site ? order->site : "");
+    write_escaped(to, place);
+    free(place);
     fprintf(to, "\"%s%s]\n", order->is_reversal || order->is_broken ? ", color=red" : "",
         order->is_reversal ? ", style=dashed" : "");
 }

@@ -6,6 +6,7 @@
 
 #include "holdings.h"
 #include "memory.h"
+#include "place_words.h"
 #include "replay.h"
 #include "thread_label.h"
 #include "verdict.h"
@@ -32,9 +33,9 @@ static void add(struct scene *scene, unsigned seat, const char *what, const char
 {
     const struct notes *notes = &scene->process->notes;
     char *before = scene->text[seat];
-    char *label = before ? copy("") : label_of(notes, seat);
-    scene->text[seat] =
-        say_text("%s seat %u%s %s @ %s\n", before ? before : "", seat, label, what, notes_site(notes, place));
+    char *label = before ? copy("") : label_of(notes, seat), *told = place_told(notes_site(notes, place));
+    scene->text[seat] = say_text("%s seat %u%s %s %s\n", before ? before : "", seat, label, what, told);
+    free(told);
     free(label);
     free(before);
 }

@@ -9,6 +9,7 @@
 #include "html_parts.h"
 #include "memory.h"
 #include "page.h"
+#include "place_words.h"
 
 /* So many pictures, rows of orders and threads are in a page; beyond it is said that there are more. */
 enum { PICTURES_MOST = 8, ROWS_MOST = 2000, THREADS_MOST = 500, TYPES_SHOWN = 64, NONCE = 16 };
@@ -131,7 +132,8 @@ static void put_section(struct html *html, enum section section, const char *id,
         return;
     put(html, "<section id='%s'><h2>%s</h2>\n", id, name);
     if (section == SECTION_SILENCED)
-        put(html, "<p>Lines of <code>%s</code> allow these.</p>\n", findings->ignore);
+        put(html, findings->ignore ? "<p>Lines of <code>%s</code> allow these.</p>\n"
+                                   : "<p>The lists of right orders of libraries allow these.</p>\n", findings->ignore);
     if (count == 0)
         put_nothing(html);
     /* What is confirmed comes first. */
@@ -196,7 +198,9 @@ static void put_table(const struct html *html, const struct order_list *orders)
         const struct order *order = &orders->order[i];
         bool is_bad = order->is_reversal || order->is_broken;
         put(html, "<tr><td><code>%s</code></td><td><code>%s</code></td>", order->from, order->to);
-        put(html, "<td><code>%s</code></td>", order->site);
+        char *place = place_name(order->site ? order->site : "");
+        put(html, "<td><code>%s</code></td>", place);
+        free(place);
         put(html, is_bad ? "<td class='bad'>%s</td></tr>\n" : "<td>%s</td></tr>\n", standing(order));
     }
     put(html, "</tbody></table></div>\n");
@@ -251,7 +255,9 @@ static size_t put_threads_of(const struct html *html, const struct found *found,
         put(html, "<tr><td>%l</td><td>%s</td><td>", event->thread, event->name ? event->name : "");
         if (event->maker)
             put(html, "<code>%s</code>", event->maker);
-        put(html, event->site ? "</td><td><code>%s</code></td>" : "</td><td>%s</td>", event->site);
+        char *place = place_name(event->site ? event->site : "");
+        put(html, event->site ? "</td><td><code>%s</code></td>" : "</td><td>%s</td>", place);
+        free(place);
         put(html, "<td><code>%s</code> %l</td></tr>\n", found->program, found->process);
     }
     free(thread);

@@ -7,6 +7,7 @@
 #include "memory.h"
 #include "order_parts.h"
 #include "picture.h"
+#include "place_words.h"
 #include "report_orders.h"
 
 /* Of more processes the first are named, and of more types the first can be found. */
@@ -80,8 +81,13 @@ static void put_head(const struct html *html, const struct finding *finding, siz
 
 static void put_lock(const struct html *html, const struct report_line *line, const char *class, const char *heading)
 {
-    put(html, "<section class='place %s'><h4>%s</h4>\n<p><code>%s</code>, %s", class, heading, line->name, line->class);
-    if (strcmp(line->name, line->type) != 0)
+    struct code_words code;
+    const char *number = code_words_read(&code, line->site) ? lock_number(line->name, line->type) : NULL;
+    const char *name = number ? line->type : line->name;
+    put(html, "<section class='place %s'><h4>%s</h4>\n<p><code>%s</code>", class, heading, name);
+    put(html, number ? " lock %s, " : "%s, ", number);
+    put(html, "%s", line->class);
+    if (strcmp(name, line->type) != 0)
         put(html, " of type <code>%s</code>", line->type);
     put(html, "</p>\n");
     put_where(html, line);

@@ -6,6 +6,7 @@
 #include "escape.h"
 #include "memory.h"
 #include "place.h"
+#include "place_words.h"
 
 /* So many lines of a source are shown before and after a place. */
 enum { AROUND = 3 };
@@ -81,10 +82,13 @@ static void put_callers(const struct html *html, const struct frames *frames)
     put(html, "<details><summary>Callers (%z)</summary>\n<ol class='callers'>\n", frames->count - 1);
     for (size_t i = 1; i < frames->count; i++) {
         const struct frame *frame = &frames->frame[i];
-        if (frame->function)
-            put(html, "<li><code>%s</code> at <code>%s</code></li>\n", frame->function, frame->site);
+        struct code_words code;
+        char *place = place_name(frame->site);
+        if (frame->function && !code_words_read(&code, frame->site))
+            put(html, "<li><code>%s</code> at <code>%s</code></li>\n", frame->function, place);
         else
-            put(html, "<li><code>%s</code></li>\n", frame->site);
+            put(html, "<li><code>%s</code></li>\n", place);
+        free(place);
     }
     put(html, "</ol></details>\n");
 }
@@ -92,22 +96,31 @@ static void put_callers(const struct html *html, const struct frames *frames)
 static void put_thread(const struct html *html, const struct report_line *line)
 {
     const struct event *known = line->known;
+    struct code_words code;
     if (line->thread == 0)
         return;
+    char *place = place_name(known && known->site ? known->site : "");
     put(html, ", by thread %l", line->thread);
     if (known && known->name)
         put(html, " (<code>%s</code>)", known->name);
-    if (known && known->site && known->maker)
-        put(html, ", made by <code>%s</code> at <code>%s</code>", known->maker, known->site);
+    if (known && known->site && code_words_read(&code, known->site))
+        put(html, ", made in <code>%s</code>", place);
+    else if (known && known->site && known->maker)
+        put(html, ", made by <code>%s</code> at <code>%s</code>", known->maker, place);
     else if (known && known->site)
-        put(html, ", made at <code>%s</code>", known->site);
+        put(html, ", made at <code>%s</code>", place);
+    free(place);
 }
 
 void put_where(const struct html *html, const struct report_line *line)
 {
     struct place place;
-    put(html, "<p>%s<code>%s</code>", place_read(&place, line->site) ? "at " : "", line->site);
-    if (line->frames && line->frames->count > 0 && line->frames->frame[0].function)
+    struct code_words code;
+    bool is_code = code_words_read(&code, line->site);
+    char *name = place_name(line->site);
+    put(html, "<p>%s<code>%s</code>", is_code ? "in " : place_read(&place, line->site) ? "at " : "", name);
+    free(name);
+    if (!is_code && line->frames && line->frames->count > 0 && line->frames->frame[0].function)
         put(html, " in <code>%s</code>", line->frames->frame[0].function);
     put_thread(html, line);
     put(html, "</p>\n");

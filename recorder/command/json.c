@@ -6,8 +6,17 @@
 #include "memory.h"
 #include "objects.h"
 #include "place.h"
+#include "place_words.h"
 
 enum { VERSION = 1, TYPES_SHOWN = 64 };
+
+/* As a trace has it; null of none. */
+static void write_trace_site(struct objects *to, const char *name, const char *site)
+{
+    char *bare = site ? place_in_trace(site) : NULL;
+    object_text(to, name, bare);
+    free(bare);
+}
 
 /* The place with its file and its line, each null where it isn't known. */
 static void write_site(struct objects *to, const char *site)
@@ -15,7 +24,7 @@ static void write_site(struct objects *to, const char *site)
     struct place place;
     bool is_place = place_read(&place, site);
     char *file = is_place && place.line > 0 ? copy_bytes(place.file, place.length) : NULL;
-    object_text(to, "site", site);
+    write_trace_site(to, "site", site);
     object_text(to, "file", file);
     if (file)
         object_number(to, "line", place.line);
@@ -34,7 +43,7 @@ static void write_thread(struct objects *to, const char *name, long number, cons
     object_number(to, "number", number);
     object_text(to, "name", known ? known->name : NULL);
     object_text(to, "maker", known ? known->maker : NULL);
-    object_text(to, "made", known ? known->site : NULL);
+    write_trace_site(to, "made", known ? known->site : NULL);
     object_close(to, '{');
 }
 
@@ -248,9 +257,9 @@ static void write_confirmed(struct objects *to, const struct confirmed *confirme
         object_open(to, NULL, '{');
         object_number(to, "thread", thread->thread);
         object_text(to, "took", thread->took);
-        object_text(to, "took_at", thread->took_at);
+        write_trace_site(to, "took_at", thread->took_at);
         object_text(to, "waits_for", thread->wants);
-        object_text(to, "waits_at", thread->wants_at);
+        write_trace_site(to, "waits_at", thread->wants_at);
         object_close(to, '{');
     }
     object_close(to, '[');
@@ -269,6 +278,23 @@ static void write_variables(struct objects *to, const struct notes *notes, const
         object_open(to, NULL, '{');
         object_text(to, "type", type[i]);
         write_code(to, &variable);
+        object_close(to, '{');
+    }
+    object_close(to, '[');
+}
+
+/* The names of the types in each run; of one that holds under a build alone with that. */
+static void write_lasting(struct objects *to, const struct notes *notes, const char *const *type, size_t types)
+{
+    object_open(to, "lasting", '[');
+    for (size_t i = 0; i < types; i++) {
+        const struct alias *alias = notes_alias(notes, type[i]);
+        if (!alias || !alias->lasting.name)
+            continue;
+        object_open(to, NULL, '{');
+        object_text(to, "type", type[i]);
+        object_text(to, "name", alias->lasting.name);
+        object_text(to, "build_id", alias->lasting.lasts ? NULL : alias->lasting.build_id);
         object_close(to, '{');
     }
     object_close(to, '[');
@@ -296,6 +322,7 @@ static void write_report(struct objects *to, const struct finding *finding)
     for (size_t i = 0; i < types; i++)
         object_text(to, NULL, type[i]);
     object_close(to, '[');
+    write_lasting(to, notes, type, types);
     write_variables(to, notes, type, types);
     write_locks(to, finding->report);
     write_steps(to, finding->report, notes);

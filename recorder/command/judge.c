@@ -5,6 +5,7 @@
 
 #include "holdings.h"
 #include "memory.h"
+#include "place_words.h"
 #include "replay.h"
 #include "verdict.h"
 
@@ -62,9 +63,10 @@ static char *told_line(const struct process *process, unsigned long number)
         struct piece name = trace_lock(&trace, line.lock)->name;
         struct piece at = line.word == TRACE_TRY ? line.place : holdings->seat[line.seat].asked_at;
         char *place = copy_bytes(at.at ? at.at : "", (size_t)at.length);
+        char *told = place_told(notes_site(&process->notes, place));
         free(text);
-        text = say_text("seat %u gets \"%.*s\", which isn't free, @ %s", line.seat, name.length, name.at,
-            notes_site(&process->notes, place));
+        text = say_text("seat %u gets \"%.*s\", which isn't free, %s", line.seat, name.length, name.at, told);
+        free(told);
         free(place);
     }
     trace_close(&trace);

@@ -30,6 +30,7 @@ bool kept_write(const struct settings *settings, const char *work)
         return false;
     put(file, "keep", settings->keep);
     put(file, "ignore", settings->ignore);
+    put(file, "right", settings->right);
     put(file, "witness", settings->witness);
     put(file, "misfit", settings->misfit);
     fputs("error ", file);
@@ -78,7 +79,7 @@ static void take_value(const char **setting, bool wanted, const char *line, cons
 void kept_read(struct settings *settings, const char *records)
 {
     char *path = say_text("%s/../settings", records), *line = NULL;
-    const char *ignore = NULL, *skip = NULL;
+    const char *ignore = NULL, *skip = NULL, *right = NULL;
     size_t room = 0;
     FILE *file = fopen(path, "re");
     free(path);
@@ -89,13 +90,18 @@ void kept_read(struct settings *settings, const char *records)
         take_value(&settings->program, true, line, "program");
         take_value(&ignore, !is_asked(settings->ignore) && !ignore, line, "ignore");
         take_value(&skip, !is_asked(settings->skip) && !skip, line, "skip");
+        take_value(&right, !right, line, "right");
     }
     free(line);
     fclose(file);
     if (skip)
         settings->skip = skip;
     /* The file was named from where the program was run. */
+    if (right && !settings->right)
+        settings->right =
+            *right == '/' || strcmp(right, "-") == 0 ? copy(right) : say_text("%s/%s", settings->directory, right);
     if (ignore)
         settings->ignore = *ignore == '/' ? copy(ignore) : say_text("%s/%s", settings->directory, ignore);
     free((char *)ignore);
+    free((char *)right);
 }

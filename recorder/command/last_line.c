@@ -35,17 +35,37 @@ static char *end_of_program(const struct run *run)
     return copy("");
 }
 
+static unsigned long count_with(struct run *run, enum silence silence)
+{
+    unsigned long count = 0;
+    for (size_t i = 0; i < run->recordings; i++)
+        count += reports_with(run, &run->recording[i], silence);
+    return count;
+}
+
 /* The reports that there would be without the ignore file, where there is none with it. */
 static char *silenced(struct run *run)
 {
-    unsigned long count = 0;
-    for (size_t i = 0; run->matches > 0 && i < run->recordings; i++)
-        count += reports_without_ignore(run, &run->recording[i]);
-    if (count == 0)
+    unsigned long right = run->matches > 0 && run->libraries > 0 ? count_with(run, SILENCE_IGNORED) : 0;
+    unsigned long count = run->matches > 0 ? count_with(run, SILENCE_NOTHING) : 0;
+    if (count <= right)
         return copy("");
-    char *reports = counted(count, "report", "s");
+    char *reports = counted(count - right, "report", "s");
     char *text = say_text(": %s silences %s", run->settings.ignore, reports);
     free(reports);
+    return text;
+}
+
+/* The reports that there would be without the right orders of libraries: `, 2 known of libavcodec.so`, or an empty text. */
+static char *known_orders(struct run *run, const char *before)
+{
+    unsigned long count = run->libraries > 0 ? count_with(run, SILENCE_IGNORED) : 0;
+    char *text = count > run->reports ? say_text("%s%lu known of", before, count - run->reports) : copy("");
+    for (size_t i = 0; *text && i < run->libraries; i++) {
+        char *longer = say_text("%s%s %s", text, i == 0 ? "" : i + 1 == run->libraries ? " and" : ",", run->library[i]);
+        free(text);
+        text = longer;
+    }
     return text;
 }
 
@@ -94,12 +114,14 @@ static void tell_reported(struct run *run, const char *so_far, const char *end)
     char *reports = counted(run->reports, "report", "s"), *circles = counted(run->circles, "circle", "s");
     char *processes = counted(run->shown, "process", "es"), *errors = counted(run->errors, "error", "s");
     char *confirmed = confirm_is_wanted(&run->settings) ? say_text(", %lu confirmed", run->confirmed) : copy("");
+    char *known = known_orders(run, ", ");
     if (*end)
         say(&run->output, "%s", end);
     if (run->errors)
-        say(&run->output, "%s%s%s, %s, %s, %s", so_far, reports, confirmed, circles, errors, processes);
+        say(&run->output, "%s%s%s%s, %s, %s, %s", so_far, reports, known, confirmed, circles, errors, processes);
     else
-        say(&run->output, "%s%s%s, %s, %s", so_far, reports, confirmed, circles, processes);
+        say(&run->output, "%s%s%s%s, %s, %s", so_far, reports, known, confirmed, circles, processes);
+    free(known);
     free(confirmed);
     free(reports);
     free(circles);
@@ -120,11 +142,12 @@ static char *but_errors(const struct run *run)
 static bool tell_nothing(struct run *run, const char *so_far, const char *end)
 {
     const struct output *output = &run->output;
-    char *unseen = not_seen(run), *errors = but_errors(run);
+    char *unseen = not_seen(run), *errors = but_errors(run), *known = known_orders(run, "; ");
     bool is_unseen = *unseen;
     if (run->partly || *end || is_unseen) {
         char *without = silenced(run);
-        say(output, "%snothing in what was recorded%s%s%s%s%s", so_far, errors, *end ? ": " : "", end, without, unseen);
+        say(output, "%snothing in what was recorded%s%s%s%s%s%s", so_far, errors, *end ? ": " : "", end, without, known,
+            unseen);
         free(without);
     } else if (run->shown == 0) {
         say(output, "%snothing to report%s: no thread asked for a lock while it held another", so_far, errors);
@@ -134,9 +157,10 @@ static bool tell_nothing(struct run *run, const char *so_far, const char *end)
             say(output, "%snot clean: %s", so_far, run->unclean);
         else
             say(output, "%s%s", so_far, clean);
-        say(output, "%snothing to report%s%s", so_far, errors, without);
+        say(output, "%snothing to report%s%s%s", so_far, errors, without, known);
         free(without);
     }
+    free(known);
     free(unseen);
     free(errors);
     return is_unseen;

@@ -227,7 +227,8 @@ static void leave_line_out(char *label)
 
 static void say_label(struct making_name *name)
 {
-    char *label = copy(name->type->label);
+    const char *field = lock_field_of(name->declared, name->type);
+    char *label = copy(field ? field : name->type->label);
     leave_line_out(label);
     say(name, label);
     free(label);

@@ -4,6 +4,7 @@
 #include "columns.h"
 #include "call_words.h"
 #include "declared.h"
+#include "fields.h"
 #include "locked.h"
 #include "map.h"
 #include "members.h"
@@ -24,6 +25,9 @@ struct lock_names {
     struct map functions_by_step; /* numbers in the list, from 1 on */
     const struct function_in_source **function;
     size_t functions, function_room;
+    struct map fields; /* by labels and places: numbers in the list, from 1 on */
+    const char **field;
+    size_t field_count, field_room;
     struct alike *alike;
     struct texts *texts;
 };
@@ -40,6 +44,8 @@ void lock_names_end(struct lock_names *names)
 {
     free(names->name);
     free(names->function);
+    free(names->field);
+    map_end(&names->fields);
     map_end(&names->by_step);
     map_end(&names->functions_by_step);
     alike_end(names->alike);
@@ -241,6 +247,24 @@ const struct function_in_source *function_at_step(const struct declared *declare
     }
     free(key);
     return names->function[*number - 1];
+}
+
+const char *lock_field_of(const struct declared *declared, const struct type *type)
+{
+    struct lock_names *names = symbols_lock_names(declared->symbols);
+    const struct place *place = type->count > 0 ? place_of(declared, type->place[0]) : NULL;
+    if (!type->label || !place || place->kind != PLACE_SITE)
+        return NULL;
+    char *key = say_text("%s\n%s:%u", type->label, place->site->frame[0].site, (unsigned)type->column);
+    size_t *number = map_add_text(&names->fields, key);
+    if (*number == 0) {
+        char *found = field_of_label(declared, type);
+        ADD(names->field, names->field_count, names->field_room) = kept(names, found);
+        *number = names->field_count;
+        free(found);
+    }
+    free(key);
+    return names->field[*number - 1];
 }
 
 const struct lock_name_in_source *lock_name_at(const struct declared *declared, const struct step *step)

@@ -11,6 +11,7 @@ struct alike;
 struct declared;
 struct step;
 struct lock_names;
+struct type;
 
 struct lock_name_in_source {
     /* The one expression that it can be; NULL where there isn't one, or the source was changed after the object. */
@@ -43,6 +44,9 @@ struct function_in_source {
 
 /* That of the step. Never NULL; it is looked for once, and ends with the symbols. */
 const struct function_in_source *function_at_step(const struct declared *declared, const struct step *step);
+
+/* As field_of_label (fields.h), looked for once; it ends with the symbols. NULL where it isn't known. */
+const char *lock_field_of(const struct declared *declared, const struct type *type);
 
 /* That of the step. Never NULL; it is looked for once, and ends with the symbols. */
 const struct lock_name_in_source *lock_name_at(const struct declared *declared, const struct step *step);

@@ -240,10 +240,18 @@ static bool is_header(const char *file)
     return false;
 }
 
+/* The raw locks of lock_api, which the crate's macros make in the program, and what lock_api itself does with them. */
+static bool is_of_lock_api(const char *name, const char *file)
+{
+    bool is_of_crate = strstr(name, " as lock_api::") || strstr(file, "/lock_api-") || strstr(file, "/lock_api/src/");
+    return is_of_crate && strstr(file, ".rs:");
+}
+
 /* The header witness.hpp, or the crate witness. */
 static bool is_of_annotations(const char *name, const char *file)
 {
-    return strstr(file, "/witness.hpp:") || (begins(name + (*name == '<'), "witness::") && strstr(file, ".rs:"));
+    return strstr(file, "/witness.hpp:") || (begins(name + (*name == '<'), "witness::") && strstr(file, ".rs:"))
+        || is_of_lock_api(name, file);
 }
 
 bool is_of_library(const char *name, const char *file)

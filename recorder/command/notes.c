@@ -16,6 +16,7 @@ void notes_end(struct notes *notes)
     free(notes->alias);
     free(notes->matched);
     free(notes->blind);
+    free(notes->library);
     free(notes->lock);
     map_end(&notes->cut);
     free(notes->whole);

@@ -100,6 +100,8 @@ struct notes {
     size_t matches, matched_room;
     const char **blind;     /* objects in which stacks end */
     size_t blinds, blind_room;
+    const char **library;   /* those whose right orders were silenced (right_orders.h), each once */
+    size_t libraries, library_room;
     struct lock_name *lock; /* lock[N - 1] is that of number N */
     size_t locks, lock_room;
     struct map cut;         /* names that are too long for a trace, as it has them: numbers in the list, from 1 on */

@@ -14,6 +14,7 @@
 #include "graph.h"
 #include "inside.h"
 #include "memory.h"
+#include "right_orders.h"
 #include "usage.h"
 #include "written.h"
 
@@ -92,6 +93,17 @@ static void take_error(struct options *options, const char *word)
 static void take_learn(struct options *options, const char *word)
 {
     options->settings.learn = word;
+}
+
+static void take_right(struct options *options, const char *word)
+{
+    options->settings.right = word;
+}
+
+static void take_no_right(struct options *options, const char *word)
+{
+    (void)word;
+    options->settings.right = "-";
 }
 
 static void take_known(struct options *options, const char *word)
@@ -293,6 +305,8 @@ static const struct option {
     {"--held-callers", ALONE, take_held},
     {"--skip", WORD, take_skip},
     {"--ignore", INPUT, take_ignore},
+    {"--default-ignore", INPUT, take_right},
+    {"--no-default-ignore", ALONE, take_no_right},
     {"--error-exitcode", WORD, take_error},
     {"--learn", OUTPUT, take_learn},
     {"--known", INPUT, take_known},
@@ -442,6 +456,7 @@ void options_read(struct options *options, const char *here, char **words)
         refuse("%s runs no program, so %s means nothing", other, *options->program);
     if (!other && !*options->program)
         refuse("no program is named");
+    options->settings.right_usually = right_orders_place(here);
     if (options->settings.learn && options->settings.known)
         refuse("--learn and --known are one or the other");
     check_confirm(options, other);

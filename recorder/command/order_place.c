@@ -6,6 +6,7 @@
 
 #include "memory.h"
 #include "place.h"
+#include "place_words.h"
 
 /* `FUNCTION (FILE)`, or what is known of it; with the line in the file where that is wanted. */
 static void put_place(FILE *to, const struct notes *notes, struct piece piece, bool with_line)
@@ -17,16 +18,17 @@ static void put_place(FILE *to, const struct notes *notes, struct piece piece, b
     const char *function = frames && frames->count > 0 ? frames->frame[0].function : NULL;
     const char *site = notes_site(notes, text);
     bool is_line = place_read(&place, site) && place.line > 0;
-    const char *bracket = is_line ? NULL : strchr(site, '('), *last = bracket ? strrchr(bracket, ')') : NULL;
+    struct code_words code = {0};
+    bool has_function = code_words_read(&code, site) && code.function_length > 0;
     int file = is_line ? (int)place.length : (int)strcspn(site, "+(:");
     if (function)
         fprintf(to, "%s (", function);
-    else if (last)
-        fprintf(to, "%.*s (", (int)(last - bracket - 1), bracket + 1);
+    else if (has_function)
+        fprintf(to, "%.*s (", (int)code.function_length, code.function);
     fprintf(to, "%.*s", file, site);
     if (is_line && with_line)
         fprintf(to, ":%ld", place.line);
-    if (function || last)
+    if (function || has_function)
         putc(')', to);
     free(text);
 }

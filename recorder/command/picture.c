@@ -6,6 +6,7 @@
 #include "escape.h"
 #include "layout.h"
 #include "memory.h"
+#include "place_words.h"
 
 /* More is no picture that somebody reads. */
 enum { BOXES_MOST = 80, ARROWS_MOST = 200, LABELS_MOST = 80 };
@@ -78,16 +79,16 @@ static size_t box_of(struct picture *picture, const char *type)
     return picture->types++;
 }
 
-/* The file alone, and the line. The end of a long one. */
-static const char *label_of(const struct order *order)
+/* The file alone, and the line; or the function. The end of a long one: a text of one's own. */
+static char *label_of(const struct order *order)
 {
-    const char *label = order->site ? order->site : "", *slash = strrchr(label, '/');
-    if (slash)
-        label = slash + 1;
+    char *name = place_name(order->site ? order->site : ""), *slash = strrchr(name, '/'), *label = slash ? slash + 1 : name;
     size_t length = count_characters(label), bytes;
     for (; length > LABEL_MOST; length--, label += bytes)
         first_character(label, strlen(label), &bytes);
-    return label;
+    char *cut = copy(label);
+    free(name);
+    return cut;
 }
 
 /* Takes the order into the picture, if there is room for it. */
@@ -146,10 +147,11 @@ static void begin_picture(struct picture *picture, const struct order_list *orde
     for (size_t i = 0; i < picture->types; i++)
         measure(&picture->layout.box[i], picture->type[i], picture->is_doubled[i]);
     for (size_t i = 0; i < picture->layout.arrows && picture->layout.arrows <= LABELS_MOST; i++) {
-        const char *label = label_of(picture->order[i]);
+        char *label = label_of(picture->order[i]);
         if (*label)
             picture->layout.arrow[i].width = LABEL_WIDTH * (double)count_characters(label) + 4;
         picture->layout.arrow[i].height = *label ? LABEL_HEIGHT : 0;
+        free(label);
     }
     layout(&picture->layout);
 }
@@ -217,13 +219,13 @@ static void write_arrow(FILE *to, const struct picture *picture, size_t number)
     const struct layout_arrow *arrow = &picture->layout.arrow[number];
     const struct order *order = picture->order[number];
     const char *look = order->is_reversal ? " bad reversal" : order->is_broken ? " bad" : "";
-    const char *label = label_of(order);
+    char *label = label_of(order), *place = place_told(order->site);
     fputs("<g><title>", to);
     escape_html(to, order->from);
     fputs(order->is_reversal ? " is held, asked for is " : " before ", to);
     escape_html(to, order->to);
-    fputs(order->site ? " @ " : "", to);
-    escape_html(to, order->site ? order->site : "");
+    fputs(order->site ? " " : "", to);
+    escape_html(to, order->site ? place : "");
     fputs("</title>", to);
     write_line(to, arrow, look);
     if (arrow->width > 0) {
@@ -232,6 +234,8 @@ static void write_arrow(FILE *to, const struct picture *picture, size_t number)
                    *look ? " class='label bad'" : " class='label'", "start", &line, LABEL_WIDTH);
     }
     fputs("</g>\n", to);
+    free(label);
+    free(place);
 }
 
 size_t picture_write(FILE *to, const struct order_list *orders, const char *program, size_t number)

@@ -116,7 +116,6 @@ void planned_begins(struct planned *planned)
 {
     memset(planned, 0, sizeof *planned);
     planned->plan.mark = PLAN_MARK;
-    planned->plan.bytes = sizeof planned->plan;
 }
 
 void planned_adds(struct planned *planned, const struct planned_place *hold, const struct planned_place *ask)
@@ -195,7 +194,6 @@ static void forget_counts(struct plan *plan)
     for (uint32_t i = 0; i < PLAN_ORDERS; i++) {
         plan->order[i].holds_back = 0;
         memset(&plan->order[i].asked, 0, sizeof plan->order[i].asked);
-        memset(&plan->order[i].held, 0, sizeof plan->order[i].held);
     }
     plan->met = plan->begun = plan->all_sleep = plan->processes = 0;
 }
@@ -219,7 +217,7 @@ void planned_for(struct planned *planned, unsigned run)
 
 struct plan plan_of_noise(uint32_t milliseconds)
 {
-    return (struct plan){.mark = PLAN_MARK, .bytes = sizeof(struct plan), .noise_ms = milliseconds};
+    return (struct plan){.mark = PLAN_MARK, .noise_ms = milliseconds};
 }
 
 bool plan_write(const struct plan *plan, const char *path)

@@ -16,6 +16,7 @@
 #include "learn.h"
 #include "memory.h"
 #include "plan.h"
+#include "right_orders.h"
 #include "usage.h"
 #include "written.h"
 
@@ -87,10 +88,23 @@ static char *log_name(const char *log)
     return whole;
 }
 
+static void check_right(const char *path)
+{
+    struct right_orders right = {0};
+    size_t bad = right_orders_read(&right, path);
+    right_orders_end(&right);
+    if (bad)
+        refuse("%s: line %zu isn't OBJECT \"FUNCTION\" \"FUNCTION\" in \"FUNCTION\"", path, bad);
+    if (access(path, R_OK) != 0)
+        refuse("%s can't be read", path);
+}
+
 void prepare_files(const struct settings *settings)
 {
     if (is_asked(settings->ignore))
         check_ignore(settings->ignore);
+    if (is_asked(settings->right) && strcmp(settings->right, "-") != 0)
+        check_right(settings->right);
     if (is_asked(settings->keep))
         written_check(settings->keep);
     if (is_asked(settings->graph))

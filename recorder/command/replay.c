@@ -11,6 +11,7 @@
 #include "follow.h"
 #include "learn.h"
 #include "memory.h"
+#include "place_words.h"
 #include "replaying.h"
 #include "trace_lines.h"
 #include "write_all.h"
@@ -40,7 +41,8 @@ static ssize_t tee_writes(void *cookie, const char *bytes, size_t length)
 }
 
 /* The trace of the stream goes there. False where it couldn't be made. */
-static bool resolve_to(struct run *run, const struct stream *stream, bool silence, struct tee *tee, struct notes *notes)
+static bool resolve_to(
+    struct run *run, const struct stream *stream, enum silence silence, struct tee *tee, struct notes *notes)
 {
     FILE *to = fopencookie(tee, "w", (cookie_io_functions_t){.write = tee_writes});
     if (!to)
@@ -81,7 +83,7 @@ void replay(struct process *process)
     struct clean *clean = take(sizeof *clean);
     struct tee tee = {&replaying, clean, !process->is_followed && wants_file(run) ? open_trace(process) : -1, false};
     replaying_begin(&replaying, &run->answers, run->settings.witness);
-    process->resolved = resolve_to(run, &process->stream, true, &tee, &process->notes);
+    process->resolved = resolve_to(run, &process->stream, SILENCE_ALL, &tee, &process->notes);
     process->status = replaying_end(&replaying);
     close_trace(process, &tee, process->resolved);
     process->clean = clean_answer(clean);
@@ -95,7 +97,7 @@ static void make_again(struct process *process)
 {
     struct notes notes = {0};
     struct tee tee = {NULL, NULL, open_trace(process), false};
-    bool is_made = tee.file >= 0 && resolve_to(process->run, &process->stream, true, &tee, &notes);
+    bool is_made = tee.file >= 0 && resolve_to(process->run, &process->stream, SILENCE_ALL, &tee, &notes);
     close_trace(process, &tee, is_made);
     notes_end(&notes);
 }
@@ -121,7 +123,9 @@ static void copy_line(FILE *to, const struct trace_line *line, const struct note
     const struct spot *spot = *place == '@' ? notes_spot(notes, place) : NULL;
     if (spot) {
         fwrite(line->text.at, 1, (size_t)(last + 1 - line->text.at), to);
-        fputs(spot->site, to);
+        char *site = place_in_trace(spot->site);
+        fputs(site, to);
+        free(site);
     } else {
         fwrite(line->text.at, 1, (size_t)line->text.length, to);
     }
@@ -143,8 +147,8 @@ bool trace_is_copied(const struct process *process, const char *path)
     return fclose(to) == 0 && is_good;
 }
 
-void replay_without_ignore(
-    struct run *run, const struct recording *recording, struct reports *reports, struct notes *notes)
+void replay_with(struct run *run, const struct recording *recording, enum silence silence, struct reports *reports,
+    struct notes *notes)
 {
     static const struct notes none;
     struct stream stream;
@@ -154,7 +158,7 @@ void replay_without_ignore(
     if (stream_open(&stream, path, recording->goes_on)) {
         struct tee tee = {&replaying, NULL, -1, false};
         replaying_begin(&replaying, &run->answers, run->settings.witness);
-        resolve_to(run, &stream, false, &tee, notes);
+        resolve_to(run, &stream, silence, &tee, notes);
         replaying_end(&replaying);
         stream_close(&stream);
         reports_read(reports, replaying.told, replaying.told_length);
@@ -163,10 +167,10 @@ void replay_without_ignore(
     free(path);
 }
 
-unsigned long reports_without_ignore(struct run *run, const struct recording *recording)
+unsigned long reports_with(struct run *run, const struct recording *recording, enum silence silence)
 {
     struct reports reports = {0};
-    replay_without_ignore(run, recording, &reports, NULL);
+    replay_with(run, recording, silence, &reports, NULL);
     unsigned long count = reports_counted(&reports);
     reports_end(&reports);
     return count;

@@ -16,13 +16,13 @@ bool trace_is_there(struct process *process, const char *without);
 bool trace_is_copied(const struct process *process, const char *to);
 
 /*
- * The reports of the process without the ignore file, and its notes; NULL where those aren't wanted. Both are all zeroes
- * before.
+ * The reports of the process where no more than that is silenced, and its notes; NULL where those aren't wanted. Both are
+ * all zeroes before.
  */
-void replay_without_ignore(
-    struct run *run, const struct recording *recording, struct reports *reports, struct notes *notes);
+void replay_with(struct run *run, const struct recording *recording, enum silence silence, struct reports *reports,
+    struct notes *notes);
 
-/* How many reports there would be of the process without the ignore file. */
-unsigned long reports_without_ignore(struct run *run, const struct recording *recording);
+/* How many reports there would be of the process. */
+unsigned long reports_with(struct run *run, const struct recording *recording, enum silence silence);
 
 #endif

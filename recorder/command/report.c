@@ -4,6 +4,7 @@
 #include <string.h>
 
 #include "memory.h"
+#include "place_words.h"
 
 static const char reversal[] = "lock order reversal", duplicate[] = "acquiring duplicate lock";
 static const char established[] = "established order:";
@@ -31,12 +32,9 @@ static const struct event *known_of(const struct notes *notes, long thread)
     return NULL;
 }
 
-/* What the line tells of the place, where it is one of the notes'. The answer is what its text has there; NULL where it is none. */
-static const char *add_spot(struct report_line *line, const struct notes *notes, const char *place)
+/* What the line tells of the place, where it is one of the notes'. */
+static void add_spot(struct report_line *line, const struct notes *notes, const struct spot *spot)
 {
-    const struct spot *spot = notes_spot(notes, place);
-    if (!spot)
-        return NULL;
     line->is_spot = true;
     line->spot = (size_t)(spot - notes->spot) + 1;
     line->at = spot->at;
@@ -45,7 +43,72 @@ static const char *add_spot(struct report_line *line, const struct notes *notes,
     line->known = known_of(notes, spot->thread);
     if (spot->frames > 0 && spot->frames <= notes->framed)
         line->frames = &notes->frames[spot->frames - 1];
-    return spot->told ? spot->told : spot->site;
+}
+
+char *lock_told_at(const struct notes *notes, const char *name, const char *site)
+{
+    struct code_words code;
+    const char *type = name;
+    bool is_code = code_words_read(&code, site);
+    for (size_t i = 0; is_code && i < notes->locks; i++)
+        if (strcmp(notes->lock[i].name, name) == 0)
+            type = notes->lock[i].type;
+    return lock_told(name, type);
+}
+
+/* Of a line of a circle, or of an error, whose heading are its words. */
+static void say_other(struct report_line *line, const struct notes *notes)
+{
+    const char *open = strchr(line->words, '"'), *close = open ? strchr(open + 1, '"') : NULL;
+    if (!close)
+        return;
+    char *name = copy_bytes(open + 1, (size_t)(close - open - 1)), *lock = lock_told_at(notes, name, line->site);
+    char *words = say_text("%.*s%s%s", (int)(open - line->words), line->words, lock, close + 1);
+    free(line->heading);
+    free(line->words);
+    line->heading = copy(words);
+    line->words = words;
+    free(name);
+    free(lock);
+}
+
+/* From the first quote on. */
+static const char *quoted(const char *heading)
+{
+    return heading + strcspn(heading, "\"");
+}
+
+/* Of a lock that is used at a place without a line: the type's name stands there once. */
+static void say_lock(struct report_line *line)
+{
+    char *lock = lock_told(line->name, line->type);
+    bool is_type = strcmp(line->name, line->type) == 0 || lock_number(line->name, line->type);
+    char *heading = say_text("%.*s%s", (int)(quoted(line->heading) - line->heading), line->heading, lock);
+    free(line->heading);
+    free(line->words);
+    line->heading = heading;
+    line->words = is_type ? say_text("%s (%s)", heading, line->class)
+                          : say_text("%s (%s, %s)", heading, line->type, line->class);
+    free(lock);
+}
+
+/* The line has these words, and that place as it stands in the trace. */
+static void add_place(struct report_line *line, const struct notes *notes, char *words, const char *place)
+{
+    struct code_words code;
+    const struct spot *spot = notes_spot(notes, place);
+    if (spot)
+        add_spot(line, notes, spot);
+    else
+        line->site = line->own_site = copy(place);
+    line->words = words;
+    if (line->kind == LINE_LOCK && code_words_read(&code, line->site))
+        say_lock(line);
+    else if (line->kind == LINE_WAITS || line->kind == LINE_HOLDS)
+        say_other(line, notes);
+    char *told = spot && spot->told ? say_text("@ %s", spot->told) : place_told(line->site);
+    line->text = say_text("%s %s", line->words, told);
+    free(told);
 }
 
 struct report_line *reports_add_line(struct reports *reports, enum line_kind kind, const char *heading, const char *place)
@@ -53,10 +116,7 @@ struct report_line *reports_add_line(struct reports *reports, enum line_kind kin
     struct report *report = &reports->report[reports->count - 1];
     struct report_line *line = &ADD(report->line, report->lines, report->room);
     *line = (struct report_line){.kind = kind, .heading = copy(heading)};
-    const char *told = add_spot(line, reports->notes, place);
-    line->text = say_text("%s @ %s", heading, told ? told : place);
-    if (!line->site)
-        line->site = line->text + strlen(heading) + 3;
+    add_place(line, reports->notes, copy(heading), place);
     return line;
 }
 
@@ -117,11 +177,11 @@ static bool read_step(struct report_line *line, const char *text)
     return true;
 }
 
-/* What a line of another kind says of its place. */
-static char *heading_of(const char *text, const char *place)
+/* Where the place of the line stands, its last word; NULL where it has none. */
+static const char *place_in(const char *text)
 {
-    size_t length = (size_t)(place - text);
-    return copy_bytes(text, length >= 3 && memcmp(place - 3, " @ ", 3) == 0 ? length - 3 : strlen(text));
+    const char *blank = strrchr(text, ' ');
+    return blank && blank - text >= 2 && memcmp(blank - 2, " @ ", 3) == 0 ? blank + 1 : NULL;
 }
 
 /* A line of the verifier's, of the last report. */
@@ -129,15 +189,15 @@ static void add_line(struct reports *reports, const char *text)
 {
     struct report *report = &reports->report[reports->count - 1];
     struct report_line *line = &ADD(report->line, report->lines, report->room);
-    const char *blank = strrchr(text, ' '), *place = blank ? blank + 1 : text;
+    const char *place = place_in(text);
     *line = (struct report_line){.kind = LINE_PLAIN};
     bool is_read = read_lock(line, text) || read_step(line, text);
-    const char *told = *text == ' ' ? add_spot(line, reports->notes, place) : NULL;
-    line->text = say_text("%.*s%s", (int)(place - text), text, told ? told : place);
-    if (is_read && !line->site)
-        line->site = line->text + (place - text);
+    if (place && (is_read || notes_spot(reports->notes, place)))
+        add_place(line, reports->notes, copy_bytes(text, (size_t)(place - 3 - text)), place);
+    else
+        line->text = copy(text);
     if (line->is_spot && !is_read)
-        line->heading = heading_of(text, place);
+        line->heading = copy(line->words);
     if (line->kind == LINE_LOCK) {
         report->first = report->last;
         report->last = report->lines - 1;
@@ -220,6 +280,8 @@ unsigned long reports_circles(const struct reports *reports)
 static void free_line(struct report_line *line)
 {
     free(line->text);
+    free(line->words);
+    free(line->own_site);
     free(line->heading);
     free(line->name);
     free(line->type);
@@ -243,9 +305,12 @@ void reports_end(struct reports *reports)
 char *report_about(const struct report *report)
 {
     const struct report_line *first = &report->line[report->first], *last = &report->line[report->last];
-    if (report->first && report->last)
-        return say_text("\"%s\" and \"%s\" @ %s", first->name, last->name, last->site);
-    return say_text("\"%s\"", report->line[0].text);
+    if (!report->first || !report->last)
+        return say_text("\"%s\"", report->line[0].text);
+    char *place = place_told(last->site);
+    char *about = say_text("%s and %s %s", quoted(first->heading), quoted(last->heading), place);
+    free(place);
+    return about;
 }
 
 char *report_lines(const struct report *report)

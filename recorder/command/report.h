@@ -21,11 +21,13 @@ struct report_line {
         LINE_WAITS, /* of a circle: a seat waits for the lock of that name, which seat `next` holds */
         LINE_HOLDS, /* and a lock that a seat of it holds */
     } kind;
-    char *text;                  /* as the verifier wrote it, with the site in place of a number */
-    char *heading;               /* of a place: the text without the site, and of a lock without its type */
+    char *text;                  /* as it is told: its place by place_words.h */
+    char *words;                 /* that without the place; NULL where there is none */
+    char *heading;               /* of a place: these, and of a lock without its type */
     char *name, *type, *class;   /* of a lock; a step has the types that are in order as its type and other */
     char *other;
-    const char *site;            /* FILE:LINE; `listed` or `defined` of a step that no thread made */
+    const char *site;            /* FILE:LINE, or as in ../code_words.h; `listed` or `defined` of a step that no thread made */
+    char *own_site;              /* where it stands, if not in the notes */
     bool is_spot;                /* it stood as a number of the notes, which know of its thread and its frames */
     const struct frames *frames; /* of the thread that was there; NULL where they aren't known */
     long thread;                 /* as the kernel counts; 0 where it isn't known */
@@ -75,10 +77,13 @@ unsigned long reports_circles(const struct reports *reports);
 
 void reports_end(struct reports *reports);
 
-/* Its lines as the verifier wrote them, as a text of one's own. */
+/* Its lines as they are told, as a text of one's own. */
 char *report_lines(const struct report *report);
 
-/* By what the report is known, as a text of one's own: `"NAME" and "NAME" @ SITE`, of its last two locks. */
+/* The lock of that name as it is told at the place: a text of one's own, with quotes. */
+char *lock_told_at(const struct notes *notes, const char *name, const char *site);
+
+/* By what the report is known, as a text of one's own: `"NAME" and "NAME" @ FILE:LINE`, of its last two locks. */
 char *report_about(const struct report *report);
 
 #endif

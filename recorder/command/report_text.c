@@ -4,6 +4,7 @@
 #include <string.h>
 
 #include "memory.h"
+#include "place_words.h"
 #include "thread_label.h"
 
 /* Whether a line before this one has told of the thread. */
@@ -30,10 +31,11 @@ static void write_thread(FILE *to, const struct report *report, size_t number)
 
 static void write_frame(FILE *to, const struct frame *frame)
 {
-    if (frame->function)
-        fprintf(to, "  %s (%s)\n", frame->function, frame->site);
-    else
-        fprintf(to, "  %s\n", frame->site);
+    struct code_words code;
+    bool has_function = frame->function && !code_words_read(&code, frame->site);
+    char *place = place_name(frame->site);
+    fprintf(to, has_function ? "  %s (%s)\n" : "  %s%s\n", has_function ? frame->function : "", place);
+    free(place);
 }
 
 /* A place's heading and its frames. The lines of a circle have their threads themselves. */

@@ -3,6 +3,7 @@
 #include "declared.h"
 #include "ignore.h"
 #include "memory.h"
+#include "right_orders.h"
 #include "sites.h"
 #include "symbols.h"
 #include "texts.h"
@@ -11,11 +12,13 @@
 #include "types.h"
 
 #include <stdlib.h>
+#include <string.h>
 
 struct resolver {
     const struct settings *settings;
     struct symbols *symbols;
     struct ignore ignore;
+    struct right_orders right;
     struct told_names *told;
 };
 
@@ -27,6 +30,9 @@ struct resolver *resolver_new(const struct settings *settings)
     resolver->told = told_names_new();
     if (settings->ignore && *settings->ignore)
         ignore_read(&resolver->ignore, settings->ignore);
+    const char *right = settings->right ? settings->right : settings->right_usually;
+    if (right && strcmp(right, "-") != 0)
+        right_orders_read(&resolver->right, right);
     return resolver;
 }
 
@@ -37,6 +43,7 @@ void resolver_end(struct resolver *resolver)
     symbols_end(resolver->symbols);
     told_names_end(resolver->told);
     ignore_end(&resolver->ignore);
+    right_orders_end(&resolver->right);
     free(resolver);
 }
 
@@ -50,7 +57,7 @@ void resolver_keeps(struct resolver *resolver, const struct stream *stream, cons
     told_names_add(resolver->told, stream->path, alias->source, alias->type);
 }
 
-bool resolve(struct resolver *resolver, const struct stream *stream, bool silence, FILE *trace, struct notes *notes)
+bool resolve(struct resolver *resolver, const struct stream *stream, enum silence silence, FILE *trace, struct notes *notes)
 {
     const struct settings *settings = resolver->settings;
     struct declared declared;
@@ -66,6 +73,8 @@ bool resolve(struct resolver *resolver, const struct stream *stream, bool silenc
     types_begin(&types, &declared);
     type_names_give(&types, &declared, resolver->told, stream->path);
     peace_begin(&peace, silence ? &resolver->ignore : NULL, &types, notes);
+    if (silence == SILENCE_ALL)
+        right_orders_silence(&resolver->right, stream, &declared, &types, &peace, notes);
     struct making making = {
         .stream = stream,
         .declared = &declared,

@@ -11,6 +11,9 @@
 #include "settings.h"
 #include "stream.h"
 
+/* What isn't to be reported: what the user's ignore file has, or the right orders of libraries, too. */
+enum silence { SILENCE_NOTHING, SILENCE_ALL, SILENCE_IGNORED };
+
 /* Holds the symbol tools' children, one for each object, and what they answered: for all files of a run. */
 struct resolver;
 
@@ -25,9 +28,9 @@ void resolver_keeps(struct resolver *resolver, const struct stream *stream, cons
 
 /*
  * Writes the stream's trace, and the notes, which are the caller's to end in any case. Where they are NULL none are made, and
- * places stand in the trace themselves. With `silence` the user's ignore file counts. False where the trace can't be written,
- * the ignore file can't be read, or the stream has numbers that no recorder writes: what could be made is there.
+ * places stand in the trace themselves. False where the trace can't be written, the ignore file can't be read, or the stream
+ * has numbers that no recorder writes: what could be made is there.
  */
-bool resolve(struct resolver *resolver, const struct stream *stream, bool silence, FILE *trace, struct notes *notes);
+bool resolve(struct resolver *resolver, const struct stream *stream, enum silence silence, FILE *trace, struct notes *notes);
 
 #endif

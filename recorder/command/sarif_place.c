@@ -7,6 +7,7 @@
 #include "escape.h"
 #include "memory.h"
 #include "place.h"
+#include "place_words.h"
 
 bool sarif_is_place(const char *site)
 {
@@ -74,18 +75,16 @@ static void write_file(struct objects *to, const char *directory, const char *fi
     free(folder);
 }
 
-/* OBJECT+0xOFFSET(FUNCTION) */
+/* A place without a line. */
 static void write_object(struct objects *to, const char *text)
 {
-    const char *plus = strstr(text, "+0x"), *next = plus;
-    while (next && (next = strstr(next + 1, "+0x")) != NULL)
-        plus = next;
-    char *object = copy_bytes(text, plus ? (size_t)(plus - text) : strlen(text));
+    struct code_words code;
+    bool is_code = code_words_read(&code, text);
+    char *object = copy_bytes(text, is_code ? code.object_length : strlen(text));
     char *uri = uri_of("", object);
-    unsigned long long offset = plus ? strtoull(plus + 3, NULL, 16) : 0;
-    if (plus && offset <= LLONG_MAX) {
+    if (is_code && code.offset <= LLONG_MAX) {
         object_open(to, "address", '{');
-        object_number(to, "relativeAddress", (long long)offset);
+        object_number(to, "relativeAddress", (long long)code.offset);
         object_close(to, '{');
     }
     object_open(to, "artifactLocation", '{');

@@ -5,6 +5,7 @@
 
 #include "describe.h"
 #include "memory.h"
+#include "place_words.h"
 #include "sarif_place.h"
 #include "thread_label.h"
 
@@ -30,11 +31,19 @@ static const char *function_of(const struct report_line *line)
 /* What stands in the line before its place, without the blank. */
 static char *words_of(const struct report_line *line)
 {
-    const char *text = line->text, *at = strstr(text, " @ ");
-    for (const char *next = at; next && (next = strstr(next + 1, " @ ")) != NULL;)
-        at = next;
-    text += *text == ' ';
-    return at && at > text ? copy_bytes(text, (size_t)(at - text)) : copy(text);
+    const char *words = line->words ? line->words : line->text;
+    return copy(words + (*words == ' '));
+}
+
+/* `at [FILE:LINE](NUMBER)`, or `in [FUNCTION (OBJECT)](NUMBER)` where the line isn't known: a text of one's own. */
+static char *link_to(const char *site, size_t number)
+{
+    struct code_words code;
+    char *name = place_name(site), *plain = sarif_plain(name);
+    char *link = say_text("%s [%s](%zu)", code_words_read(&code, site) ? "in" : "at", plain, number);
+    free(name);
+    free(plain);
+    return link;
 }
 
 /* The description, then each line, with a link to its place. */
@@ -47,9 +56,9 @@ static void write_words(struct objects *to, const struct finding *finding)
     for (size_t i = 1; i < report->lines; i++) {
         const struct report_line *line = &report->line[i];
         char *words = words_of(line), *plain_words = sarif_plain(words), *before = text;
-        char *site = line->site ? sarif_plain(line->site) : NULL;
+        char *link = line->site ? link_to(line->site, i) : NULL, *site = line->site ? sarif_plain(line->site) : NULL;
         if (has_place(line))
-            text = say_text("%s\n%s at [%s](%zu).", before, plain_words, site, i);
+            text = say_text("%s\n%s %s.", before, plain_words, link);
         else if (site)
             text = say_text("%s\n%s, %s.", before, plain_words, site);
         else
@@ -57,6 +66,7 @@ static void write_words(struct objects *to, const struct finding *finding)
         free(before);
         free(words);
         free(plain_words);
+        free(link);
         free(site);
     }
     char *single = sarif_plain(finding->single);
@@ -304,7 +314,8 @@ static void write_fingerprints(struct objects *to, const struct finding *finding
 
 static void write_suppression(struct objects *to, const struct findings *findings)
 {
-    char *words = say_text("a line of %s allows it", findings->ignore ? findings->ignore : "the ignore file");
+    const char *list = findings->ignore ? findings->ignore : "the lists of right orders of libraries";
+    char *words = say_text("a line of %s allows it", list);
     object_open(to, "suppressions", '[');
     object_open(to, NULL, '{');
     object_text(to, "kind", "external");

@@ -10,6 +10,8 @@
 struct settings {
     const char *keep;      /* -o FILE */
     const char *ignore;    /* --ignore FILE */
+    const char *right;     /* --default-ignore FILE, `-` for none; NULL for the lists that come with `record` */
+    const char *right_usually; /* where these are; NULL where they aren't there */
     const char *log;       /* --log-file FILE */
     const char *graph;     /* --graph FILE */
     const char *html;      /* --html FILE */

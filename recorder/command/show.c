@@ -189,6 +189,9 @@ static void end_run(struct run *run)
     free(run->recording);
     free(run->going);
     free(run->blind);
+    for (size_t i = 0; i < run->libraries; i++)
+        free((char *)run->library[i]);
+    free(run->library);
     free(run->matched);
     free(run->unclean);
     free(run);

@@ -71,7 +71,7 @@ char *unknown_place(const struct declared *declared, const struct place *place)
     const char *object = object_name(declared, place->object), *function = function_of(declared, place);
     if (!place->function)
         return say_text("%s+0x%" PRIx64, object, place->offset);
-    return say_text("%s+0x%" PRIx64 "(%s)", object, place->offset, function);
+    return say_text("%s+0x%" PRIx64 "(%s+0x%" PRIx64 ")", object, place->offset, function, place->within);
 }
 
 const char *word_of(struct sites *sites, const char *text)

@@ -31,13 +31,13 @@ bool place_says(const struct declared *declared, const struct place *place);
 const struct place *chosen_place(const struct declared *declared, const struct place *place);
 /* The function there as the source names it where the symbols know that; NULL where it isn't known. */
 const char *function_of(const struct declared *declared, const struct place *place);
-/* OBJECT+OFFSET(FUNCTION), a text of one's own. */
+/* OBJECT+0xOFFSET(FUNCTION+0xWITHIN), a text of one's own (../code_words.h). */
 char *unknown_place(const struct declared *declared, const struct place *place);
 
-/* FILE:LINE of the place; where nothing is known of it, OBJECT+OFFSET(FUNCTION) and line 0: a text of one's own. */
+/* FILE:LINE of the place; where nothing is known of it, that and line 0: a text of one's own. */
 char *source_of(const struct declared *declared, const struct place *place);
 
-/* As source_of, of the place of that number, as a word of a trace. */
+/* As source_of, of the place of that number, in the bytes that a word of a trace may have. */
 const char *site_of(struct sites *sites, uint32_t place);
 /* The text as a word of a trace. */
 const char *word_of(struct sites *sites, const char *text);

@@ -17,6 +17,7 @@
 #include "learn.h"
 #include "memory.h"
 #include "missed.h"
+#include "place_words.h"
 #include "replay.h"
 #include "report_text.h"
 #include "version.h"
@@ -223,8 +224,12 @@ static void tell_releases(struct process *process)
         const struct event *event = &process->notes.event[i];
         if (event->kind != EVENT_FOREIGN)
             continue;
-        char *line = say_text(" \"%s\" @ %s\n", event->name ? event->name : "", event->site ? event->site : "?:0");
+        char *place = place_told(event->site);
+        char *lock = lock_told_at(&process->notes, event->name ? event->name : "", event->site ? event->site : "");
+        char *line = say_text(" %s %s\n", lock, place);
         tell(&run->output, line, strlen(line));
+        free(lock);
+        free(place);
         free(line);
     }
 }
@@ -267,6 +272,13 @@ static void keep_for_later(struct process *process)
             at++;
         if (at == run->matches)
             ADD(run->matched, run->matches, run->matched_room) = notes->matched[i];
+    }
+    for (size_t i = 0; i < notes->libraries; i++) {
+        size_t at = 0;
+        while (at < run->libraries && strcmp(run->library[at], notes->library[i]) != 0)
+            at++;
+        if (at == run->libraries)
+            ADD(run->library, run->libraries, run->library_room) = copy(notes->library[i]);
     }
     for (size_t i = 0; i < notes->blinds; i++) {
         size_t at = 0;

@@ -61,6 +61,8 @@ struct run {
     bool has_new;      /* one of them is new */
     const char **blind; /* objects in which stacks end */
     size_t blinds, blind_room;
+    const char **library; /* those whose right orders were silenced */
+    size_t libraries, library_room;
     unsigned long *matched; /* lines of the ignore file that name types */
     size_t matches, matched_room;
     struct told *told;  /* reports that were told (equal.c) */

@@ -5,6 +5,7 @@
 #include "map.h"
 #include "memory.h"
 #include "names.h"
+#include "place_words.h"
 #include "progress.h"
 #include "texts.h"
 #include "type_names.h"
@@ -166,8 +167,9 @@ static void put_place(struct writing *writing, const struct line *line, unsigned
     if (writing->has_spots) {
         put_spot(writing, spot_number(writing, place, stack, writing->sitter[seat]));
     } else {
-        const char *site = site_of(writing->making->sites, place);
+        char *site = place_in_trace(site_of(writing->making->sites, place));
         put_bytes(writing->trace, site, strlen(site));
+        free(site);
     }
     putc_unlocked('\n', writing->trace);
 }

@@ -1,5 +1,6 @@
 #include "type_names.h"
 
+#include "function_names.h"
 #include "lasting_variables.h"
 #include "lock_names.h"
 #include "memory.h"
@@ -16,6 +17,7 @@
 struct giving {
     const struct declared *declared;
     struct types *types;
+    const struct function_names *functions;
     const char **wanted; /* by types; NULL of one that isn't a first one */
     struct map taken;
 };
@@ -70,6 +72,16 @@ static bool makes_one(const struct giving *giving, uint32_t number)
     return is_one;
 }
 
+/* The text in the bytes that a name may have. */
+static const char *cleaned(const struct giving *giving, const char *text)
+{
+    char *name = copy(text);
+    clean_name(name);
+    const char *kept = texts_copy(giving->declared->texts, name, strlen(name));
+    free(name);
+    return kept;
+}
+
 /*
  * The name without its object. A variable that is one lock is told with the index of its element: it is a type of its own.
  */
@@ -77,8 +89,9 @@ static const char *bare_name(const struct giving *giving, uint32_t number)
 {
     const struct named_type *type = &giving->types->type[number];
     const struct type *declared = declared_type(giving, number);
+    const char *function = function_name(giving->functions, number);
     if (!type->lasting.lasts)
-        return type->by_lines;
+        return function ? cleaned(giving, function) : type->by_lines;
     bool is_one = declared->has_variable && !type->is_array && (declared->count == 0 || makes_one(giving, number));
     return is_one ? type->lock : type->lasting.bare;
 }
@@ -86,11 +99,7 @@ static const char *bare_name(const struct giving *giving, uint32_t number)
 /* What the program names has a line at its end, maybe, by which it is told from others. */
 static const char *whole_label(const struct giving *giving, uint32_t number)
 {
-    char *label = copy(declared_type(giving, number)->label);
-    clean_name(label);
-    const char *kept = texts_copy(giving->declared->texts, label, strlen(label));
-    free(label);
-    return kept;
+    return cleaned(giving, declared_type(giving, number)->label);
 }
 
 static const char *with_object(const struct giving *giving, uint32_t number)
@@ -234,12 +243,8 @@ static void give_told(struct giving *giving, const struct told_names *told, cons
     }
 }
 
-/* Giant is the kernel's own lock, with rules that no program's has. */
-void type_names_give(
-    struct types *types, const struct declared *declared, const struct told_names *told, const char *stream)
+static void give_lasting(struct types *types, const struct declared *declared)
 {
-    struct giving giving = {declared, types, take((types->count + 1) * sizeof *giving.wanted), {0}};
-    *map_add_text(&giving.taken, "Giant") = 1;
     for (uint32_t number = 1; number < types->count; number++) {
         struct named_type *type = &types->type[number];
         if (type->first != number)
@@ -247,6 +252,22 @@ void type_names_give(
         type->lasting = lasting_of(declared, types, number);
         if (declared->type[number].has_variable)
             type->lock = variable_lock_name(declared, &declared->type[number].variable);
+    }
+}
+
+/* Giant is the kernel's own lock, with rules that no program's has. */
+void type_names_give(
+    struct types *types, const struct declared *declared, const struct told_names *told, const char *stream)
+{
+    struct function_names functions;
+    struct giving giving = {declared, types, &functions, take((types->count + 1) * sizeof *giving.wanted), {0}};
+    *map_add_text(&giving.taken, "Giant") = 1;
+    give_lasting(types, declared);
+    function_names_begin(&functions, declared, types);
+    for (uint32_t number = 1; number < types->count; number++) {
+        struct named_type *type = &types->type[number];
+        if (type->first != number)
+            continue;
         giving.wanted[number] = bare_name(&giving, number);
         type->lock_has_name =
             type->lock && (!type->lasting.lasts || strcmp(type->lock, giving.wanted[number]) == 0);
@@ -258,6 +279,7 @@ void type_names_give(
     give_wanted(&giving);
     for (uint32_t number = 1; number < types->count; number++)
         types->type[number].name = types->type[types->type[number].first].name;
+    function_names_end(&functions);
     map_end(&giving.taken);
     free(giving.wanted);
 }

@@ -25,6 +25,8 @@ static const char text[] =
     "  --held-callers stacks of all that was held, not of the first at each place; each lock takes longer\n"
     "  --skip PATTERN functions of that name (* and ? as in names of files) count as part of the lock's own call\n"
     "  --ignore FILE  lines \"TYPE\": its duplicates are all right; lines \"TYPE\" \"TYPE\": either order is all right\n"
+    "  --default-ignore FILE  right orders of libraries, in place of the lists that come with it\n"
+    "  --no-default-ignore    no such lists\n"
     "  --error-exitcode N   the status, 1 to 255, where there is a report, a circle or an error, or nothing was recorded at all\n"
     "  --log-file FILE      in place of standard error; %p is the process's number, and each process has a file then\n"
     "  --gen-suppressions   below each report the line for the ignore file that would silence it\n"

@@ -168,8 +168,8 @@ static bool are_empty(void)
     struct line *line = atomic_load(&lines);
     for (size_t i = 0; i < LINES * (size_t)LINE_WORDS; i++)
         rest |= line[i / LINE_WORDS].words[i % LINE_WORDS];
-    for (size_t i = 0; i < WIDE_BUCKETS * (size_t)WIDE_PLACES; i++)
-        rest |= wides[i / WIDE_PLACES].places[i % WIDE_PLACES].from;
+    for (size_t i = 0; i < WIDES; i++)
+        rest |= wides[i].from;
     return rest == 0;
 }
 

@@ -1,12 +1,13 @@
-# Tests of `record --confirm`: models of programs that can hang (confirm/wrong.c, confirm/one_place.c, confirm/observers.cc),
-# and of such as only look like that (confirm/right.c). recorder/test/run has the functions.
+# Tests of `record --confirm`: models of programs that can hang (confirm/wrong.c, confirm/one_place.c, confirm/observers.cc,
+# confirm/tasks.cc), and of such as only look like that (confirm/right.c). recorder/test/run has the functions.
 
-# build_models: wrong, right, one_place, observers and observers_0, here.
+# build_models: wrong, right, one_place, tasks, observers and observers_0, here.
 build_models() {
     [ ! -x observers_0 ] || return 0
     cp "$here"/confirm/* . && "${CC:-cc}" -g -O1 -Wall -Wextra -Werror -pthread -o wrong wrong.c &&
         "${CC:-cc}" -g -O1 -Wall -Wextra -Werror -pthread -o right right.c &&
-        "${CC:-cc}" -g -O1 -Wall -Wextra -Werror -pthread -o one_place one_place.c && c++ -g -O1 -pthread -o observers observers.cc &&
+        "${CC:-cc}" -g -O1 -Wall -Wextra -Werror -pthread -o one_place one_place.c && c++ -g -O2 -pthread -o tasks tasks.cc &&
+        c++ -g -O1 -pthread -o observers observers.cc &&
         c++ -g -O0 -pthread -o observers_0 observers.cc
 }
 
@@ -58,6 +59,16 @@ if wanted unconfirmed; then
     HANGS=tell unconfirmed 'not confirmed: seemed to hang in run [1-3], but not each lock says who holds it: thread \|not confirmed in 3 runs: .*, crosswise [1-9][0-9]* times, and the threads went on' ./right handover
 fi
 
+# Programs of other tests, whose orders never come at once. bench/confirm.sh has all of them.
+if wanted unconfirmed; then
+    for words in reversal cycle philosophers rwlock joins cancel "single gate" "single readers" "single early" "single waits" "single under"; do
+        compile "${words%% *}"
+        # shellcheck disable=SC2086 # these are words
+        unconfirmed 'not confirmed in 3 runs: \(@ [^ ]*:[0-9]* was \|thread [0-9]* alone came \)' ./$words
+    done
+    words=
+fi
+
 # How often a steered run was made, by the file that --before writes.
 runs_made() {
     wc -l <before 2>/dev/null || echo 0
@@ -97,6 +108,18 @@ END
     [ $? -eq 2 ] && grep -q "^record: other.json isn't a file that record --json has written$" recorded.err
     tell steered "a file that isn't one of findings is refused" $?
 
+    # The one that hangs is told last, and stands first in the page.
+    # shellcheck disable=SC2016 # the shell that runs it has these
+    confirmed_run --html two.html --json two.json -- sh -c './right alone; ./wrong accounts'
+    python3 - <<'END'
+import json, re
+reports = json.load(open("two.json"))["reports"]
+assert [bool(report["confirmed"]["run"]) for report in reports] == [False, True], reports
+cards = re.findall("<article .*?</article>", open("two.html").read(), re.S)
+assert ["confirmed: hung" in card for card in cards] == [True, False], len(cards)
+END
+    tell steered "what is confirmed stands first in the page" $?
+
     confirmed_run --error-exitcode 9 --alarms confirmed ./wrong accounts
     [ $? -eq 9 ] && { confirmed_run --error-exitcode 9 --alarms confirmed ./right alone; [ $? -eq 0 ]; }
     tell steered "--alarms confirmed" $?
@@ -114,6 +137,14 @@ END
     RUNS==1 confirmed_run ./one_place table
     grep -q "$hangs" recorded.err
     tell steered "a circle of ten orders at one place, for which a plan has no room" $? || cat recorded.err
+
+    # Their places stand for several functions of the C++ library, and for what called these.
+    confirmed_run --json tasks.json ./tasks
+    grep -q "$hangs" recorded.err
+    tell steered "locks that tasks of std::async take" $? || cat recorded.err
+    RECORD_FRAMES=8 "$record" --confirm-from tasks.json ./tasks >recorded.out 2>recorded.err
+    grep -q "$hangs" recorded.err
+    tell steered "and those of an earlier run" $? || cat recorded.err
 
     echo accounts >model
     RECORD_FRAMES=8 "$record" --on-deadlock kill --confirm -- sh -c 'read model; ./wrong $model' <model >recorded.out 2>recorded.err

@@ -6,7 +6,7 @@
 
 int main(int count, char **words)
 {
-    static struct plan plan = {.mark = PLAN_MARK, .bytes = sizeof plan, .orders = 1, .pause_ms = 50, .back_ms = 50};
+    static struct plan plan = {.mark = PLAN_MARK, .orders = 1, .pause_ms = 50, .back_ms = 50};
     struct plan_chain chain = {.frames = 1, .frame = {{.code = {.offset = 1, .name = "elsewhere"}}}};
     FILE *file = count == 3 ? fopen(words[1], "w") : NULL;
     if (!file)

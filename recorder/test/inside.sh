@@ -216,10 +216,10 @@ fi
 if wanted link; then
     mkdir -p linked && cp "$here/reversal.c" . && cc -pthread -s -o linked/file reversal.c && ln -sf file linked/alias
     "$record" -- linked/alias 2>recorded.err
-    grep -q '@ alias+0x' recorded.err && ! grep -q 'file+0x' recorded.err
+    grep -q ' in .*alias' recorded.err && ! grep -q '[ (]file' recorded.err
     tell link "the program's own name, by a link" $?
     "$record" -- linked/file 2>recorded.err
-    grep -q '@ file+0x' recorded.err
+    grep -q ' in .*file' recorded.err
     tell link "the program's own name" $?
 fi
 

@@ -52,6 +52,9 @@ int main(void)
         {"<witness::mutex::Mutex<T>>::lock", "/home/user/witness/src/mutex.rs:9"},
         {"witness::mutex::Mutex<T>::lock", "/home/user/witness/src/mutex.rs:9"},
         {"witness::take", "/home/user/take.cc:9"},
+        {"<pool::locks::RawMutex as lock_api::mutex::RawMutex>::lock", "/home/user/rust/src/raw.rs:62"},
+        {"lock_api::mutex::Mutex<R, T>::lock", "/usr/share/cargo/registry/lock_api-0.4.9/src/mutex.rs:214"},
+        {"pool::raw::take", "/home/user/pool/src/raw.rs:9"},
         {"pool::witness::take", "/home/user/take.rs:9"},
     };
     static const char *const words[] = {"a%20b%25%2d", "%c3%a9%", "100%2", "%zz%2g%2A", "%2525"};

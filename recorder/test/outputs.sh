@@ -10,7 +10,7 @@ build_driver() {
     shift 2
     sources=
     for module in alarms describe escape findings hang html html_card html_list html_parts json layout layout_rows map memory notes objects \
-        order_parts orders page picture place report report_orders sarif sarif_place sarif_result single texts thread_label; do
+        order_parts orders page picture place place_words report report_orders sarif sarif_place sarif_result single texts thread_label; do
         sources="$sources $recorder/command/$module.c"
     done
     mkdir -p "$folder" && (cd "$folder" && "$compiler" -std=c11 -D_GNU_SOURCE -g -Wall -Wextra -Werror \

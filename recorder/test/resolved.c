@@ -38,7 +38,7 @@ static bool print_names(struct resolver *resolver, const char *path)
     FILE *nowhere = fopen("/dev/null", "w");
     if (!nowhere || !stream_open(&stream, path, false))
         return false;
-    bool good = resolve(resolver, &stream, true, nowhere, &notes);
+    bool good = resolve(resolver, &stream, SILENCE_ALL, nowhere, &notes);
     print_types(&notes);
     notes_end(&notes);
     stream_close(&stream);
@@ -52,7 +52,7 @@ static bool print_trace(struct resolver *resolver, const char *path, bool has_no
     struct notes notes;
     if (!stream_open(&stream, path, false))
         return false;
-    bool good = resolve(resolver, &stream, true, stdout, has_notes ? &notes : NULL);
+    bool good = resolve(resolver, &stream, SILENCE_ALL, stdout, has_notes ? &notes : NULL);
     if (has_notes) {
         print_notes(&notes);
         notes_end(&notes);

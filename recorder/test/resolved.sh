@@ -6,6 +6,7 @@ compile_resolved() {
         -Wall -Wextra -Werror -I"$recorder/command" -o resolved "$here/resolved.c" \
         $(for part in memory columns texts map line names tool symbols stream notes declared sites frames types ignore trace single \
             progress place object_file source_lines source_text locked call_words alike lasting_variables type_names \
+            function_names place_words fields right_orders right_requests \
             libdw debug_info debug_units debug_types scopes values members variables lock_names steps lasting resolve; do echo "$recorder/command/$part.c"; done) -ldl
 }
 export ASAN_OPTIONS=exitcode=99 UBSAN_OPTIONS=exitcode=99
@@ -29,6 +30,9 @@ if wanted names; then
     "${CC:-cc}" -std=c11 -D_GNU_SOURCE -Wall -Wextra -Werror -I"$recorder/command" -o names "$here/names.c" \
         "$recorder/command/names.c" && ./names | diff "$here/names.want" -
     tell names "functions as their sources name them, and files of libraries" $?
+    "${CC:-cc}" -std=c11 -D_GNU_SOURCE -Wall -Wextra -Werror -I"$recorder/command" -o placewords "$here/placewords.c" \
+        "$recorder/command/place_words.c" "$recorder/command/memory.c" && ./placewords | diff "$here/placewords.want" -
+    tell names "places and locks as they are told" $?
 fi
 
 # What a symbol tool does wrong leaves its places without lines.

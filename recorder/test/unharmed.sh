@@ -39,14 +39,14 @@ if wanted words; then
     cmp -s "$recorder/stream.c" short/stream.c
     [ $? -eq 1 ] && short/record -- "./$deep/reversal" 2>&1 | told >recorded.err &&
         grep -q '^record: reversal: not recorded: 1 lines (a name was too long for them)$' recorded.err &&
-        grep -q '^ 1st "journal" .*+0x[0-9a-f]*(checkpoint):0$' recorded.err
+        grep -q '^ 1st "journal" (sleep mutex) in checkpoint$' recorded.err
     tell words "a line that has no room is left out and counted, and the next one is read" $?
     if command -v objcopy >/dev/null; then
         objcopy --redefine-sym "journal=jo ur" reversal space
         objcopy --redefine-sym "pool=$(printf 'po\nmany 0 0 0 x 0 0 x\nol')" reversal newline
         strip -g space newline
         "$record" -- ./space 2>&1 | told >recorded.err
-        [ "$(tail -n 1 recorded.err)" = "record: 1 report, 0 circles, 1 process" ] && grep -q '^ 1st "jo ur" (jo ur, ' recorded.err &&
+        [ "$(tail -n 1 recorded.err)" = "record: 1 report, 0 circles, 1 process" ] && grep -q '^ 1st "jo ur" (sleep mutex) in checkpoint (space)$' recorded.err &&
             ! grep -q 'nothing is known\|no room' recorded.err
         tell words "a variable whose name has a space" $?
         "$record" --frames 8 -- ./newline 2>&1 | told >recorded.err

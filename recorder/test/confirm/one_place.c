@@ -33,17 +33,18 @@ static void ten(void)
     RUN(hardly, hardly);
 }
 
-/* More philosophers than a plan has orders, at one place. */
+/*
+ * More philosophers than a plan has orders, at one place, each of whom eats once. The last two come while the others may
+ * pause, one after the other: these meet only where both pause, too.
+ */
 enum { SEATS = 10 };
 static mutex fork_at[SEATS] = {UNLOCKED, UNLOCKED, UNLOCKED, UNLOCKED, UNLOCKED, UNLOCKED, UNLOCKED, UNLOCKED, UNLOCKED, UNLOCKED};
 
 THREAD(philosopher)
 {
     long number = (long)unused;
-    for (int i = 0; i < 20; i++) {
-        with_both(&fork_at[number], &fork_at[(number + 1) % SEATS]);
-        nap(2000 + below(2000));
-    }
+    nap(number < SEATS - 2 ? 0 : number == SEATS - 2 ? 10000 : 25000);
+    with_both(&fork_at[number], &fork_at[(number + 1) % SEATS]);
     return NULL;
 }
 

@@ -63,6 +63,8 @@ def findings(path):
     want("three locks", [each["lock"] for each in third["held"]] + [third["asked"]["lock"]], ["disk", "inode", "disk/2"])
     want("a place without a line", [third["established"][1][name] for name in ("site", "file", "line")],
          ["libx.so+0x1a2f(flush):0", None, None])
+    want("and as it is told", third["text"][-1], ' "buffer" -> "inode" in flush+0x2f (libx.so)')
+    want("a lock there", silenced["text"][2], ' 2nd "b" (rw) in take (libx.so)')
     want("waits", [(each["seat"], each["does"], each["lock"], each["holder"], each["line"]) for each in circle["waits"]],
          [(1, "waits", "journal", 2, 13), (1, "holds", "pool", None, 10),
           (2, "waits", "pool", 1, 24), (2, "holds", "journal", None, 21)])
@@ -104,6 +106,7 @@ def sarif(path):
     want("what is held comes before what is waited for", lines, [[10, 13], [21, 24]])
     bare = results[2]["relatedLocations"][-1]["physicalLocation"]
     want("an object", bare, {"address": {"relativeAddress": 0x1a2f}, "artifactLocation": {"uri": "libx.so"}})
+    want("and in words", '\n"buffer" -> "inode" in [flush+0x2f (libx.so)](6).' in results[2]["message"]["text"], True)
     place = results[5]["locations"][0]["physicalLocation"]
     want("a place with a line", place["region"], {"startLine": 15})
     want("suppression", results[5]["suppressions"], [{"kind": "external", "justification": "a line of known allows it"}])
@@ -214,6 +217,8 @@ def shown(path):
                   "Callers (2)", "audit at helper.c:29", "pool was held, journal was asked for", "thread 4712 (writer), made by main",
                   'take "pool" before "journal" here too', '"journal" "pool"'):
         want(words, words in text, True)
+    want("a place without a line", any("in flush+0x2f (libx.so)" in re.sub(r"\s+", " ", each[2]) for each in cards), True)
+    want("no line 0", any(":0" in each[2] for each in cards), False)
     marked = [each[2].strip() for each in found.all("mark")]
     for line in ("pthread_mutex_lock(&journal);", "pthread_mutex_lock(&pool);"):
         want("a marked line", line in marked, True)
