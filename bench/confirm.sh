@@ -1,17 +1,138 @@
 #!/bin/sh
 # bench/confirm.sh [TRIES [PLAIN [right]]]: of the models of bugs in recorder/test/confirm, how often each hangs by itself, in
 # so many (20) plain runs, and how often `record --confirm` makes it hang, in so many (10) tries: in which of its three runs,
-# and after how many seconds all was told. With `right` it is how often models of right programs were confirmed. RECORDER
-# names another recorder's folder.
+# and after how many seconds all was told. With `right` it is how often models of right programs were confirmed.
+#
+# bench/confirm.sh RUNS tests [NAME..]: of the right programs in recorder/test, or of these, each of whose reports is steered
+# in so many runs (in one, where one thread alone took both orders): how many reports there are, how many steered runs were
+# made, and how many reports were confirmed. None is to be. bench/confirm.sh RUNS FILE does that with the commands of a file,
+# each in a line after a name and a colon.
+#
+# RECORDER names another recorder's folder.
 set -eu
 here=$(dirname "$(readlink -f "$0")")
 recorder=${RECORDER:-$here/../recorder}
 tries=${1:-10}
 plain=${2:-20}
 models=${3:-wrong}
+commands=$(readlink -f "$plain" || true)
 folder=$(mktemp -d)
 trap 'rm -rf "$folder"' EXIT
 cd "$folder"
+
+# steered NAME WORDS..: the row of a right program.
+steered() {
+    name=$1
+    shift
+    RECORD_FRAMES=8 timeout -s KILL 900 "$recorder/record" --on-deadlock kill --confirm="$tries" --confirm-time 600 -- "$@" >told.out 2>told.err </dev/null || true
+    awk -v name="$name" '/: not confirmed in [0-9]* run/ { sub(/.*: not confirmed in /, ""); runs += $1; reports++ }
+        /: not confirmed: seemed to hang/ { reports++; seemed++ }
+        /: not tried: / { reports++; untried++ }
+        /: confirmed: hung in run / { sub(/.*: hung in run /, ""); runs += $1; reports++; confirmed++ }
+        /: another circle: / { others++ }
+        END { printf "| %s | %d | %d | %d | %d | %d | %d |\n", name, reports, runs, confirmed, seemed, untried, others }' told.err
+    if [ -n "${KEEP:-}" ]; then
+        cp told.err "$KEEP/$name.told"
+    fi
+}
+
+# The right programs of recorder/test that have a report of an order without options, each with its words, one for each run;
+# - stands for none. Their orders never come at once, since threads are joined in between, or by what the report says.
+right_tests() {
+    cat <<'END'
+accounts both
+alike - second
+alone
+atomics
+begun
+between
+blocks crossed members row
+byname - many
+c11
+cancel
+changed
+condition
+coroutines
+crowd
+cycle
+dropped
+ending 0 1 2 3 4
+facts spent
+forking
+futex
+glib
+guards
+handover
+helper
+inlined
+joins
+jump
+kinds
+late
+later
+leaving
+live 0 3
+moved both try
+named
+odd
+oneline
+openmp
+orphans
+philosophers
+reversal
+rwlock
+separate
+single alone anew apart begun by-two early gate inner later locks not-under one read-gate readers row three through timed twice twins under waits woken writers
+small
+started
+stripes 30
+switched
+third - timed
+triples
+tryfirst
+trythen
+varying
+varyings
+vectors many
+with
+writers
+END
+}
+
+head_of_steered() {
+    echo "| Program | Reports | Steered runs | Confirmed | Seemed to hang | Not tried | Other circles |"
+    echo "|---|---|---|---|---|---|---|"
+}
+
+case $plain in
+tests)
+    shift 2
+    chosen=" $* "
+    cp "$recorder"/test/*.c "$recorder"/test/*.cc "$recorder"/test/*.h .
+    head_of_steered
+    right_tests | while read -r program words; do
+        case $chosen in "  " | *" $program "*) ;; *) continue ;; esac
+        case $program in openmp) libraries=-fopenmp ;; glib) libraries=-l:libglib-2.0.so.0 ;; *) libraries= ;; esac
+        if [ -f "$program.cc" ]; then
+            c++ -g -O1 -I"$recorder" -pthread -o "$program" "$program.cc"
+        else
+            cc -g -O1 -I"$recorder" -pthread -o "$program" "$program.c" $libraries
+        fi
+        for word in ${words:--}; do
+            case $word in -) steered "$program" "./$program" ;; *) steered "$program $word" "./$program" "$word" ;; esac
+        done
+    done
+    exit
+    ;;
+*[!0-9]*)
+    head_of_steered
+    while IFS=: read -r program command; do
+        steered "$program" sh -c "$command"
+    done <"$commands"
+    exit
+    ;;
+esac
+
 cp "$recorder"/test/confirm/* .
 cc -g -O1 -pthread -o wrong wrong.c
 cc -g -O1 -pthread -o right right.c
