@@ -17,23 +17,40 @@ confirmed_run() {
     RECORD_FRAMES=8 timeout 100 "$record" --on-deadlock "${HANGS-kill}" --confirm${RUNS-} "$@" >recorded.out 2>recorded.err </dev/null
 }
 
+# at_last COMMAND..: whether it becomes true in one of three tries. On a busy machine threads may not meet within a pause, or
+# hang by themselves in the run that is recorded.
+at_last() {
+    "$@" || "$@" || "$@"
+}
+
+# confirms COMMAND..: a report of it hangs.
+confirms() {
+    confirmed_run "$@"
+    grep -q "$hangs" recorded.err
+}
+
 # The line of a report that hung: each thread has taken a lock and waits for another.
 hangs='confirmed: hung in run [1-3] after [0-9]*\.[0-9][0-9] s: thread [0-9]* took "[^"]*" @ [^ ]* and waits for "[^"]*" @ [^ ]*; thread [0-9]* took '
+
+# confirms_model NAME: it hangs in a steered run. It may hang by itself, though that is seldom.
+confirms_model() {
+    case $1 in observers*) set -- "./$1" ;; *) set -- ./wrong "$1" ;; esac
+    confirms "$@" && grep -q '^record: .*, 1 confirmed, [01] circles*, 1 process$' recorded.err &&
+        { [ "$(cat recorded.out)" = ended ] || grep -q '^circle:$' recorded.err; }
+}
 
 if wanted confirm; then
     build_models
     got=0
     for model in $(./wrong) observers observers_0; do
-        case $model in observers*) confirmed_run "./$model" ;; *) confirmed_run ./wrong "$model" ;; esac
-        # It may hang by itself, though that is seldom.
-        if grep -q "$hangs" recorded.err && grep -q '^record: .*, 1 confirmed, [01] circles*, 1 process$' recorded.err && { [ "$(cat recorded.out)" = ended ] || grep -q '^circle:$' recorded.err; }; then
+        if confirms_model "$model" || confirms_model "$model"; then
             got=$((got + 1))
         else
             echo "not confirmed: $model" && grep confirmed recorded.err
         fi
     done
     [ $got -ge 17 ]
-    tell confirm "at least 17 of 20 models of bugs hang within three runs: $got" $?
+    tell confirm "at least 17 of 20 models of bugs hang within three runs of one of two recordings: $got" $?
 fi
 
 # unconfirmed WANTED COMMAND..: nothing hangs, and it is told why.
@@ -74,8 +91,8 @@ runs_made() {
     wc -l <before 2>/dev/null || echo 0
 }
 
-if wanted steered; then
-    build_models
+# far_in_documents: its report is confirmed in far.json, far.sarif and far.html, and says so in each.
+far_in_documents() {
     confirmed_run --json far.json --sarif far.sarif --html far.html ./wrong far
     [ $? -eq 0 ] && python3 - <<'END'
 import json
@@ -94,10 +111,67 @@ assert result["level"] == "error" and len(result["codeFlows"]) == 2
 assert [len(flow["locations"]) for flow in result["codeFlows"][1]["threadFlows"]] == [2, 2]
 assert "confirmed: hung in run 2" in open("far.html").read()
 END
-    tell steered "what is confirmed in JSON, SARIF and the page" $?
+}
 
+# far_from_json: what an earlier run reported hangs.
+far_from_json() {
     RECORD_FRAMES=8 "$record" --confirm-from far.json --error-exitcode 7 ./wrong far >recorded.out 2>recorded.err
     [ $? -eq 7 ] && grep -q "$hangs" recorded.err && grep -q '^record: 1 report, 1 confirmed$' recorded.err && [ ! -s recorded.out ]
+}
+
+# confirmed_comes_first: the report that hangs is told last, and stands first in the page.
+confirmed_comes_first() {
+    # shellcheck disable=SC2016 # the shell that runs it has these
+    confirmed_run --html two.html --json two.json -- sh -c './right alone; ./wrong accounts'
+    python3 - <<'END'
+import json, re
+reports = json.load(open("two.json"))["reports"]
+assert [bool(report["confirmed"]["run"]) for report in reports] == [False, True], reports
+cards = re.findall("<article .*?</article>", open("two.html").read(), re.S)
+assert ["confirmed: hung" in card for card in cards] == [True, False], len(cards)
+END
+}
+
+alarms_at_what_hangs() {
+    confirmed_run --error-exitcode 9 --alarms confirmed ./wrong accounts
+    [ $? -eq 9 ]
+}
+
+# one_run_of_far: its second lock comes too late for the pause of a first run.
+one_run_of_far() {
+    RUNS==1 confirmed_run ./wrong far
+    grep -q 'not confirmed in 1 run: @ wrong.c:[0-9]* was reached 1 time, ' recorded.err
+}
+
+# confirms_from FILE WORDS..: a report that was written there hangs.
+confirms_from() {
+    RECORD_FRAMES=8 "$record" --confirm-from "$@" >recorded.out 2>recorded.err
+    grep -q "$hangs" recorded.err
+}
+
+# reads_anew WORDS..: the program reads its model from standard input in each run, and hangs in a steered one alone.
+reads_anew() {
+    # shellcheck disable=SC2016 # the shell that runs it has these
+    RECORD_FRAMES=8 "$record" --on-deadlock kill --confirm "$@" -- sh -c 'read model; ./wrong $model' <model >recorded.out 2>recorded.err
+    grep -q "$hangs" recorded.err && [ "$(cat recorded.out)" = ended ]
+}
+
+# ends_what_waits: by a pipe nothing is read twice. The program waits then, and is ended with what it has begun. No other test
+# sleeps for as long.
+ends_what_waits() {
+    long=$((100000 + $$))
+    echo accounts | RECORD_FRAMES=8 "$record" --on-deadlock kill --confirm --confirm-time 3 -- \
+        sh -c "read model || sleep $long; ./wrong \$model" >recorded.out 2>recorded.err
+    grep -q '; its standard input is /dev/null$' recorded.err && grep -q 'was never reached; [1-3] of the runs took too long, and w[a-z]* ended$' recorded.err &&
+        ! pgrep -f "^sleep $long\$" >left.out
+}
+
+if wanted steered; then
+    build_models
+    at_last far_in_documents
+    tell steered "what is confirmed in JSON, SARIF and the page" $?
+
+    at_last far_from_json
     tell steered "a report of an earlier run" $?
     cp wrong wrong.before && "${CC:-cc}" -g -O2 -pthread -o wrong wrong.c
     RECORD_FRAMES=8 "$record" --confirm-from far.json ./wrong far >recorded.out 2>recorded.err
@@ -108,64 +182,39 @@ END
     [ $? -eq 2 ] && grep -q "^record: other.json isn't a file that record --json has written$" recorded.err
     tell steered "a file that isn't one of findings is refused" $?
 
-    # The one that hangs is told last, and stands first in the page.
-    # shellcheck disable=SC2016 # the shell that runs it has these
-    confirmed_run --html two.html --json two.json -- sh -c './right alone; ./wrong accounts'
-    python3 - <<'END'
-import json, re
-reports = json.load(open("two.json"))["reports"]
-assert [bool(report["confirmed"]["run"]) for report in reports] == [False, True], reports
-cards = re.findall("<article .*?</article>", open("two.html").read(), re.S)
-assert ["confirmed: hung" in card for card in cards] == [True, False], len(cards)
-END
+    at_last confirmed_comes_first
     tell steered "what is confirmed stands first in the page" $?
 
-    confirmed_run --error-exitcode 9 --alarms confirmed ./wrong accounts
-    [ $? -eq 9 ] && { confirmed_run --error-exitcode 9 --alarms confirmed ./right alone; [ $? -eq 0 ]; }
+    at_last alarms_at_what_hangs && { confirmed_run --error-exitcode 9 --alarms confirmed ./right alone; [ $? -eq 0 ]; }
     tell steered "--alarms confirmed" $?
-    RUNS==1 confirmed_run ./wrong far
-    grep -q 'not confirmed in 1 run: @ wrong.c:[0-9]* was reached 1 time, ' recorded.err
+    at_last one_run_of_far
     tell steered "--confirm=1" $?
 
     # A plan of places alone spends its pauses on the other eight.
-    RUNS==1 confirmed_run --json ten.json ./one_place ten
-    grep -q "$hangs" recorded.err && grep -q '"first" and "second" @\|"second" and "first" @' recorded.err
+    RUNS==1 at_last confirms --json ten.json ./one_place ten && grep -q '"first" and "second" @\|"second" and "first" @' recorded.err
     tell steered "of the ten locks that one function takes, the two of the report have the pauses" $? || cat recorded.err
-    RECORD_FRAMES=8 "$record" --confirm-from ten.json --confirm=1 ./one_place ten >recorded.out 2>recorded.err
-    grep -q "$hangs" recorded.err
+    at_last confirms_from ten.json --confirm=1 ./one_place ten
     tell steered "and so they have where the report is an earlier run's" $? || cat recorded.err
-    RUNS==1 confirmed_run ./one_place table
-    grep -q "$hangs" recorded.err
+    RUNS==1 at_last confirms ./one_place table
     tell steered "a circle of ten orders at one place, for which a plan has no room" $? || cat recorded.err
 
     # Their places stand for several functions of the C++ library, and for what called these.
-    confirmed_run --json tasks.json ./tasks
-    grep -q "$hangs" recorded.err
+    at_last confirms --json tasks.json ./tasks
     tell steered "locks that tasks of std::async take" $? || cat recorded.err
-    RECORD_FRAMES=8 "$record" --confirm-from tasks.json ./tasks >recorded.out 2>recorded.err
-    grep -q "$hangs" recorded.err
+    at_last confirms_from tasks.json ./tasks
     tell steered "and those of an earlier run" $? || cat recorded.err
 
     echo accounts >model
-    RECORD_FRAMES=8 "$record" --on-deadlock kill --confirm -- sh -c 'read model; ./wrong $model' <model >recorded.out 2>recorded.err
-    grep -q "$hangs" recorded.err && grep -q 'is ended where it hangs$' recorded.err && [ "$(cat recorded.out)" = ended ]
-    tell steered "standard input from a file is read anew" $?
+    at_last reads_anew && grep -q 'is ended where it hangs$' recorded.err
+    tell steered "standard input from a file is read anew" $? || cat recorded.err recorded.out
     rm -f before
-    RECORD_FRAMES=8 "$record" --on-deadlock kill --confirm --confirm-time 60 --before 'echo run >>before' -- \
-        sh -c 'read model; ./wrong $model' <model >recorded.out 2>recorded.err
-    grep -q "$hangs" recorded.err && [ "$(runs_made)" -ge 1 ]
-    tell steered "--before runs before each" $?
-    # By a pipe nothing is read twice: the program waits then, and is ended with what it has begun. No other test sleeps for that.
-    long=$((100000 + $$))
-    echo accounts | RECORD_FRAMES=8 "$record" --on-deadlock kill --confirm --confirm-time 3 -- \
-        sh -c "read model || sleep $long; ./wrong \$model" >recorded.out 2>recorded.err
-    grep -q '; its standard input is /dev/null$' recorded.err && grep -q 'was never reached; [1-3] of the runs took too long, and w[a-z]* ended$' recorded.err &&
-        ! pgrep -f "^sleep $long\$" >left.out
+    at_last reads_anew --confirm-time 60 --before 'echo run >>before' && [ "$(runs_made)" -ge 1 ]
+    tell steered "--before runs before each" $? || cat recorded.err
+    at_last ends_what_waits
     tell steered "--confirm-time ends a run, and what it has begun" $?
 
     # shellcheck disable=SC2016 # the shell that runs it has these
-    confirmed_run -- sh -c '[ -z "${RECORDER_PLAN-}" ] || setsid sleep 7343 & ./wrong accounts'
-    grep -q "$hangs" recorded.err && ! pgrep -f '^sleep 7343$' >left.out
+    at_last confirms -- sh -c '[ -z "${RECORDER_PLAN-}" ] || setsid sleep 7343 & ./wrong accounts' && ! pgrep -f '^sleep 7343$' >left.out
     tell steered "what has left the program's process group is ended, too" $?
 
     noisy=1
