@@ -1,36 +1,34 @@
-# Tests of recorder/build and of the builder, read by `run`: what is built where, when, and by whom. They use a recorder of few
+# Tests of recorder/build and of the Makefile, read by `run`: what is built where, when, and by whom. They use a recorder of few
 # lines, whose command says how it was called.
 
-# plant_small TO: the scripts and the builder as they are, and small sources. All is older than what will be built, and nothing is.
+# plant_small TO: the scripts and the Makefile as they are, and small sources. All is older than what will be built, and nothing is.
 plant_small() {
-    rm -rf "$1" cache && mkdir -p "$1/command/below" "$1/malloc" && cp -R "$recorder/build" "$recorder/record" "$recorder/orders" "$recorder/builder" "$1"
-    : >"$1/command/page.css" && : >"$1/command/below/note" && : >"$1/format.h" && : >"$1/witness.h" && : >"$1/recorder.h"
+    rm -rf "$1" cache && mkdir -p "$1/command" "$1/malloc" && cp -R "$recorder/build" "$recorder/record" "$recorder/orders" "$recorder/duty" "$recorder/Makefile" "$1"
+    : >"$1/command/page.css" && : >"$1/format.h" && : >"$1/recorder.h"
     printf '%s\n' '#include "recorder.h"' 'int is_recorder(void) { return 1; }' >"$1/start.c"
     echo 'int has_hooks(void) { return 1; }' >"$1/malloc/hooks.c"
     cp "$duty" "$1"
-    printf '%s\n' '#include <stdio.h>' '#include "../format.h"' '__asm__(".incbin \"page.css\"");' \
+    printf '%s\n' '__asm__(".incbin \"page.css\"");' 'extern int has_page;' >"$1/command/page.c"
+    printf '%s\n' '#include <stdio.h>' '#include "../format.h"' \
         'int main(int count, char **words) { return count > 2 && printf("%s in %s\n", words[2], words[1]) < 0; }' >"$1/command/main.c"
     find "$1" -exec touch -d '2 seconds ago' {} +
 }
 
-# make_compiler: one that notes what it makes. The builder gets sanitizers, where these are there.
+# make_compiler: one that notes what it makes: a part, or an object.
 make_compiler() {
-    sanitizers='-fsanitize=address,undefined -fno-sanitize-recover=all'
-    echo 'int main(void) { return 0; }' | "${CC:-cc}" $sanitizers -x c -o probe - 2>/dev/null || sanitizers=-O1
     cat >compiler <<END
 #!/bin/sh
 for word; do
     [ "\${before-}" != -o ] || made=\${word##*/}
     before=\$word
 done
-echo "\${made%.[0-9]*}" >>"$work/made"
+echo "\${made%.new}" >>"$work/made"
 if [ -e "$work/slow" ]; then
     : >"$work/begun"
     [ ! -s "$work/slow" ] || kill -s "\$(cat "$work/slow")" 0
     sleep 3
 fi
 [ ! -e "$work/refuses" ] || { echo refused; exit 1; }
-[ "\$made" != builder ] || set -- "\$@" $sanitizers
 exec "${CC:-cc}" "\$@"
 END
     chmod +x compiler
@@ -43,21 +41,25 @@ built() {
     status=$?
 }
 
-# made_are FOLDER PARTS..: whether the folder was told, and these were made, one after the other.
+# made_are FOLDER NAMES..: whether the folder was told, and just these were made.
 made_are() {
     { [ "$status" -eq 0 ] && [ "$(cat built.out)" = "$1" ] && [ ! -s built.err ]; } || { echo "status $status:"; cat built.out built.err; return 1; }
     shift
-    printf '%s\n' "$@" | sed '/^$/d' | diff - made
+    printf '%s\n' "$@" | sed '/^$/d' | LC_ALL=C sort >wanted.names
+    LC_ALL=C sort made | diff wanted.names -
 }
+of_command='main.o page.o record'
+of_all="$of_command start.o recorder.so hooks.o blocks.so"
 
-# refused_as LINE: whether nothing was told but why nothing was built.
+# refused_as LINE: whether nothing was told but why nothing was built, last.
 refused_as() {
-    [ "$status" -eq 126 ] && [ ! -s built.out ] && echo "record: $1" | diff - built.err
+    [ "$status" -eq 126 ] && [ ! -s built.out ] && printf 'record: %s\n' "$1" >wanted.err && tail -n "$(wc -l <wanted.err)" built.err | diff wanted.err -
 }
 
 # later FILE: as if it had been written after all else.
 later() {
-    touch -d '1 hour' "$1"
+    sleep 0.05
+    touch "$1"
 }
 
 # ended_with STATUS: whether it ended so without a folder told.
@@ -67,13 +69,16 @@ ended_with() {
     return 1
 }
 
-# is_left FOLDER NAMES..: whether nothing but these is in the folder.
+# is_left FOLDER NAMES..: whether nothing but these is in the folder, and the objects.
 is_left() {
     folder=$1
     shift
     printf '%s\n' "$@" | sed '/^$/d' | LC_ALL=C sort >wanted.names
-    (cd "$folder" && find . -mindepth 1) | sed 's|^\./||' | LC_ALL=C sort | diff wanted.names -
+    (cd "$folder" && find . -mindepth 1 -path ./objects -prune -o -mindepth 1 -print) | sed 's|^\./||' | LC_ALL=C sort | diff wanted.names -
 }
+
+parts='record recorder.so blocks.so'
+whole="$parts built.blocks.so.record libwit_condensed_c.a lock"
 
 if wanted builds; then
     make_compiler
@@ -81,7 +86,7 @@ if wanted builds; then
     export TMPDIR="$work/tmp"
     plant_small small
     built small/build
-    made_are "$work/small/out" builder record recorder.so blocks.so && is_left small/out builder lock record recorder.so blocks.so && is_left tmp ''
+    made_are "$work/small/out" $of_all && is_left small/out $whole && is_left tmp ''
     tell builds "beside the sources" $?
     built small/build
     made_are "$work/small/out"
@@ -92,26 +97,32 @@ if wanted builds; then
     built small/orders one
     [ "$status" -eq 0 ] && echo "--orders in $work/small" | diff - built.out && [ ! -s made ]
     tell builds "the command by its other name" $?
-    for line in 'start.c recorder.so' 'malloc/hooks.c blocks.so' 'recorder.h recorder.so' 'command/main.c record' 'command/page.css record' 'command/below/note record' \
-        'format.h record recorder.so' 'witness.h record recorder.so' 'build ' 'builder/place.h builder record recorder.so blocks.so' 'builder/anew builder record recorder.so blocks.so'; do
+    for line in 'start.c start.o recorder.so' 'malloc/hooks.c hooks.o blocks.so' 'recorder.h start.o recorder.so' 'command/main.c main.o record' \
+        'command/page.css page.o record' 'format.h main.o record' 'build ' 'duty ' 'libwit_condensed_c.a ' "Makefile $of_all"; do
         plant_small small && built small/build
         later "small/${line%% *}"
         built small/build
         made_are "$work/small/out" ${line#* }
         tell builds "what a newer ${line%% *} is in" $?
     done
+    plant_small small && built small/build
+    printf x >>small/libwit_condensed_c.a
+    later small/libwit_condensed_c.a
+    built small/build
+    made_are "$work/small/out" recorder.so
+    tell builds "the recorder, where its proved part is another one" $?
     for word in --help -h --version --completion --show --trace --clean; do
         plant_small small
         built small/build $word
-        made_are "$work/small/out" builder record
+        made_are "$work/small/out" $of_command
         tell builds "the command alone for $word" $?
     done
     built small/build --quiet
-    made_are "$work/small/out" recorder.so blocks.so
+    made_are "$work/small/out" start.o recorder.so hooks.o blocks.so
     tell builds "the rest with the next run" $?
     sanitize=1
     built small/build
-    made_are "$work/small/out" record.sanitized && { [ "$sanitizers" = -O1 ] || nm -D small/out/record.sanitized | grep -q __asan; }
+    made_are "$work/small/out" main.o page.o record.sanitized && nm -D small/out/record.sanitized | grep -q __asan
     tell builds "the command with sanitizers" $?
     sanitize=
 fi
@@ -119,30 +130,31 @@ fi
 if wanted builds; then
     plant_small small
     built env CC=no-such-compiler small/build
-    refused_as 'there is no C compiler (no-such-compiler) to build the recorder with: install one, or name it by CC' && [ ! -e small/out ]
-    tell builds "no compiler for the builder" $?
-    built small/build && rm small/out/recorder.so
-    built env CC=no-such-compiler small/build
     refused_as 'there is no C compiler (no-such-compiler) to build the recorder with: install one, or name it by CC'
-    tell builds "no compiler for the rest" $?
+    tell builds "no compiler" $?
+    mkdir -p bare && for tool in sh readlink id stat find mkdir chmod rm mktemp cksum tr flock printf env cat; do ln -sf "$(command -v $tool)" bare; done
+    built env PATH="$work/bare" small/build
+    refused_as 'there is no make to build the recorder with: install one'
+    tell builds "no make" $?
+    built small/build && rm small/out/recorder.so
     : >refuses
+    later small/start.c
     built small/build
-    sed -i '/^refused$/d' built.err
-    refused_as "the recorder wasn't built" && is_left small/out blocks.so builder lock record
-    tell builds "a compiler that makes nothing of the rest" $?
+    refused_as "the recorder wasn't built" && is_left small/out record blocks.so built.blocks.so.record libwit_condensed_c.a lock
+    tell builds "a compiler that makes nothing of a part" $?
     plant_small small
     built small/build
-    sed -i '/^refused$/d' built.err
-    refused_as "the recorder wasn't built" && is_left tmp '' && is_left small build builder command command/below command/below/note \
-        command/main.c command/page.css format.h libwit_condensed_c.a malloc malloc/hooks.c orders record recorder.h start.c witness.h $(cd small && echo builder/*)
-    tell builds "a compiler that makes nothing of the builder" $?
+    rm -f small/out/libwit_condensed_c.a
+    refused_as "the recorder wasn't built" && is_left small/out lock && is_left tmp '' &&
+        [ -z "$(find small -newer small/build ! -path 'small/out*' ! -path small)" ]
+    tell builds "a compiler that makes nothing" $?
     rm refuses
     # A folder that leaves no other than one for this run.
     odd="$work/small \$HOME"
     plant_small "$odd"
     built env XDG_CACHE_HOME= HOME= "$odd/build"
     once=$(cat built.out)
-    made_are "$once" builder record recorder.so blocks.so && is_left "$once" lock once record recorder.so blocks.so && [ "$(dirname "$once")" = "$work/tmp" ] && [ ! -e "$odd/out" ]
+    made_are "$once" $of_all && is_left "$once" once $whole && [ "$(dirname "$once")" = "$work/tmp" ] && [ ! -e "$odd/out" ]
     tell builds "in a folder for this run" $?
     rm -rf "$once"
     : >refuses
@@ -161,19 +173,19 @@ record: others can write to: let XDG_CACHE_HOME name a good one" && is_left "$od
     # In the cache, under a name that the script knows, too.
     cache=$work/cache/lanyardyuzu-recorder/$(printf '%s' "$odd" | cksum | tr ' ' -)
     built "$odd/build"
-    made_are "$cache" builder record recorder.so blocks.so && is_left "$cache" builder lock record recorder.so blocks.so
+    made_are "$cache" $of_all && is_left "$cache" $whole
     tell builds "in the user's cache" $?
     built "$odd/build"
     made_are "$cache"
-    tell builds "nothing that stands in the cache, and no builder" $?
+    tell builds "nothing that stands in the cache" $?
     built env XDG_CACHE_HOME= HOME="$work/home" "$odd/build"
-    made_are "$work/home/.cache/${cache#"$work/cache/"}" builder record recorder.so blocks.so
+    made_are "$work/home/.cache/${cache#"$work/cache/"}" $of_all
     tell builds "in the cache of the user's home" $?
     # What stands beside the sources, whose name won't do.
     cp -Rp "$cache" "$odd/out" && rm -rf "$work/cache"
     built "$odd/build"
     made_are "$cache" && cmp "$odd/out/record" "$cache/record" && cmp "$odd/out/recorder.so" "$cache/recorder.so" && [ -x "$cache/record" ] &&
-        is_left "$cache" lock record recorder.so blocks.so
+        is_left "$cache" $parts built.blocks.so.record lock
     tell builds "a copy of what stands beside its sources" $?
     rm -rf "$odd" cache home
 fi
@@ -187,12 +199,12 @@ theirs() {
 
 # What others could have written is neither run nor loaded.
 if wanted builds; then
-    for way in 'out/builder o+w' 'out/builder g+w' 'out/builder owner' 'out/builder link' 'out/record o+w' 'out/record owner' 'out/record link' \
-        'out/recorder.so g+w' 'out/recorder.so owner' 'out/blocks.so o+w' 'out o+w' 'out g+w' 'out link'; do
+    for way in 'out/record o+w' 'out/record g+w' 'out/record owner' 'out/record link' 'out/recorder.so g+w' 'out/recorder.so owner' \
+        'out/blocks.so o+w' 'out/objects/command/main.o owner' 'out/objects/command/main.o o+w' 'out o+w' 'out g+w' 'out link'; do
         plant_small small && built small/build
         file=small/${way% *}
         case $way in
-        'out '*) theirs small/out/builder small/out/record small/out/recorder.so small/out/blocks.so ;;
+        'out '*) theirs small/out/record small/out/recorder.so small/out/blocks.so ;;
         *owner) theirs "$file" ;;
         *) printf '#!/bin/sh\necho theirs\n' >"$file" ;;
         esac
@@ -202,49 +214,41 @@ if wanted builds; then
         esac
         built small/record one
         [ "$status" -eq 0 ] && echo "one in $work/small" | diff - built.out && [ -z "$(find small/out cache -name '*.so' -exec grep -l theirs {} + 2>/dev/null)" ] &&
-            grep -qx "$(basename "$file" | sed 's/^out$/recorder.so/')" made
+            grep -qx "$(basename "$file" | sed 's/^out$/record/')" made
         tell builds "not what others could have written ($way)" $?
         rm -rf there
     done
 fi
 
-# Signals to all, while the builder is compiled, or the command by it: the compiler sends them.
+# Signals to all, while the command is compiled: the compiler sends them.
 if wanted builds; then
-    for when in builder record; do
-        for each in 'INT 130' 'TERM 143' 'HUP 143'; do
-            plant_small small
-            names=lock
-            if [ $when = record ]; then
-                built small/build && rm small/out/record* small/out/blocks.so
-                names='builder lock'
-            fi
-            rm -f begun && echo "${each% *}" >slow && : >made
-            RECORD_SANITIZE= CC="$work/compiler" $taking setsid -w small/build >built.out 2>built.err
-            status=$?
-            ended_with "${each#* }" && echo $when | diff - made && is_left tmp '' &&
-                { [ $when = builder ] || is_left small/out $names; } && [ -z "$(find small -name '.builder*')" ]
-            tell builds "${each% *} while the $when is compiled" $?
-            rm slow
-        done
+    for each in 'INT 130' 'TERM 143' 'HUP 143'; do
+        plant_small small
+        rm -f begun && echo "${each% *}" >slow && : >made
+        RECORD_SANITIZE= CC="$work/compiler" $taking setsid -w small/build --show >built.out 2>built.err
+        status=$?
+        ended_with "${each#* }" && is_left tmp '' && is_left small/out lock && ! grep -qx record made
+        tell builds "${each% *} while the command is compiled" $?
+        rm slow
     done
-    # To the builder alone, which ends what it began; and where signals were ignored from the start.
-    plant_small small && built small/build && rm -f small/out/record* small/out/blocks.so begun && : >slow
-    RECORD_SANITIZE= CC="$work/compiler" $taking small/build >built.out 2>built.err &
+    # To the script alone, which ends what it began; and where signals were ignored from the start.
+    plant_small small && rm -f begun && : >slow
+    RECORD_SANITIZE= CC="$work/compiler" $taking small/build --show >built.out 2>built.err &
     within [ -e begun ] && kill -TERM $!
     wait $!
     status=$?
-    ended_with 143 && is_left small/out builder lock
-    tell builds "TERM to the builder alone" $?
-    rm -f begun
+    ended_with 143 && is_left small/out lock
+    tell builds "TERM to the script alone" $?
+    rm -f begun && : >made
     RECORD_SANITIZE= CC="$work/compiler" sh -c 'trap "" HUP; exec small/build' >built.out 2>built.err &
     within [ -e begun ] && kill -HUP $!
     wait $!
     status=$?
-    rm slow && : >made && made_are "$work/small/out" && is_left small/out builder lock record recorder.so blocks.so
+    rm slow && made_are "$work/small/out" $of_all && is_left small/out $whole
     tell builds "HUP where it was ignored from the start" $?
 fi
 
-# Two at once: the second waits, and finds all built. The builder is compiled by both.
+# Two at once: the second waits, and finds all built.
 if wanted builds; then
     plant_small small && : >made && : >slow
     for each in first second; do
@@ -253,8 +257,7 @@ if wanted builds; then
     wait
     rm slow
     cat first.out second.out | sort -u >built.out && cat first.err second.err >built.err && status=0
-    sort made >made.sorted && mv made.sorted made
-    made_are "$work/small/out" blocks.so builder builder record recorder.so && is_left small/out builder lock record recorder.so blocks.so
+    made_are "$work/small/out" $of_all && is_left small/out $whole
     tell builds "two at once" $?
 fi
 
@@ -265,32 +268,31 @@ if wanted builds; then
         chmod go+x . && chmod 1777 tmp && plant_small small && mkdir -m 777 cache
         cache=$work/cache/lanyardyuzu-recorder/$(printf '%s' "$work/small" | cksum | tr ' ' -)
         built $user small/build
-        made_are "$cache" builder record recorder.so blocks.so && is_left "$cache" builder lock record recorder.so blocks.so
+        made_are "$cache" $of_all && is_left "$cache" $whole
         tell builds "another user's sources in this user's cache" $?
         built $user small/build
         made_are "$cache"
-        tell builds "nothing that stands there, and no builder" $?
-        later small/builder/main.c
+        tell builds "nothing that stands there" $?
+        later small/Makefile
         built $user small/build
-        made_are "$cache" builder record recorder.so blocks.so
-        tell builds "all anew where the builder's sources are newer" $?
-        # What the other user has built is taken, but for a builder that is older than its sources: that one is kept in the cache.
+        made_are "$cache" $of_all
+        tell builds "all anew where the Makefile is newer" $?
+        # What the other user has built is taken, as long as no source is newer.
         plant_small small && built small/build && rm -rf cache && mkdir -m 777 cache
         built $user small/build
         made_are "$work/small/out" && is_left cache ''
         tell builds "what another user has built" $?
-        rm small/out/builder
+        later small/command/main.c
         built $user small/build
-        made_are "$work/small/out" builder && is_left "$cache" builder
-        tell builds "the builder alone in this user's cache" $?
-        built $user small/build
-        made_are "$work/small/out"
-        tell builds "nothing of it anew" $?
+        made_are "$cache" $of_all
+        tell builds "all in this user's cache where a source is newer" $?
         # A folder of the cache that is a third user's is no place for anything.
-        chown -R 65533 cache/lanyardyuzu-recorder && printf '#!/bin/sh\necho theirs\n' >"$cache/builder"
+        chown -R 65533 cache/lanyardyuzu-recorder
         built $user small/build
-        made_are "$work/small/out" builder && grep -q theirs "$cache/builder"
-        tell builds "no builder in the cache that a third user could have written" $?
+        once=$(cat built.out)
+        made_are "$once" $of_all && [ "$(dirname "$once")" = "$work/tmp" ] && [ -e "$once/once" ]
+        tell builds "nothing in a folder that a third user could have written to" $?
+        rm -rf "$once"
     else
         echo "left out  builds: only root can be another user"
     fi
