@@ -35,7 +35,7 @@ static bool has_room(struct shown *shown, size_t more)
 static void put(struct shown *shown, const char *text)
 {
     size_t length = strlen(text);
-    if (!has_room(shown, length))
+    if (length == 0 || !has_room(shown, length))
         return;
     memcpy(shown->text + shown->length, text, length);
     shown->length += length;

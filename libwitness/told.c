@@ -82,7 +82,7 @@ static bool put_line(char *to, size_t room, char *line)
         return false;
     to[length++] = ' ';
     int more = told_where(to + length, room - (size_t)length, place + 3);
-    return more >= 0 && (size_t)(length + more) < room;
+    return more >= 0 && (size_t)length + (size_t)more < room;
 }
 
 size_t told_text(char *text, size_t length)
