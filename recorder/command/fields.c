@@ -208,7 +208,7 @@ char *field_of_label(const struct declared *declared, const struct type *type)
     const char *colon = site ? strrchr(site, ':') : NULL;
     struct before before;
     char *structure, *field, *name = NULL;
-    if (type->column == 0 || !colon || !type->label[kind])
+    if (type->column == 0 || !colon || !type->label || !type->label[kind])
         return NULL;
     bool is_read = before_begin(&before, declared, site, atol(colon + 1), type->column);
     if (is_read && read_field(&before, &structure, &field)) {
