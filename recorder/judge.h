@@ -31,7 +31,7 @@ void judge_tried(const struct thread *thread, uint32_t lock, uint8_t mode, uint3
 void judge_released(const struct thread *thread, uint32_t lock, uint8_t mode);
 void judge_missed(enum missed what);
 
-/* Whether requests that wait for long are looked at: they tell of no order that isn't known. */
+/* Whether requests that wait for long are checked for a deadlock. They teach no new order. */
 bool judge_watches_waits(void);
 /* Whether the request, which is written, closes a circle of threads that wait for one another. Under the mutex. */
 bool judge_sees_circle(const struct request *request);
