@@ -108,7 +108,7 @@ if wanted builds; then
     plant_small small && built small/build
     printf x >>small/libwit_condensed_c.a
     later small/libwit_condensed_c.a
-    built small/build
+    built env -u WIT_CONDENSED small/build
     made_are "$work/small/out" recorder.so
     tell builds "the recorder, where its proved part is another one" $?
     for word in --help -h --version --completion --show --trace --clean; do
