@@ -49,7 +49,7 @@ if wanted repeats; then
             hangs_so "--frames 8" $case circle: ' seat N waits for "pool" held by seat N @ hung.c:43' \
                 " seat N waits for \"journal\" held by seat N @ hung.c:$second" \
                 " seat N holds \"pool\" @ hung.c:$first" ' seat N holds "journal" @ hung.c:49' &&
-                grep -q '^record: by now, .*: single locks: both orders, the same locks, threads [0-9]* and [0-9]*$' recorded.err
+                grep -q '^\(record: by now, .*: \)*single locks: both orders, the same locks, threads [0-9]* and [0-9]*$' recorded.err
             tell repeats "requests with a time limit without an end: $case ($requests requests)" $?
         done
         goes_on "--frames 8" backs && grep -q '^single locks: .*timed: one was asked for with a time limit$' recorded.err
