@@ -1,0 +1,16 @@
+pub mod Answers
+pub mod Calm
+pub mod Found
+pub mod Gated
+pub mod InTurn
+pub mod Looks
+pub mod Moments
+pub mod Passed
+pub mod Replayed
+pub mod Reversed
+pub mod Roomy
+pub mod Rounds
+pub mod Seats
+pub mod Segments
+pub mod Sums
+pub mod Verdicts

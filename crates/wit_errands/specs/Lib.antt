@@ -1,0 +1,4 @@
+pub mod Errands
+pub mod Examples
+pub mod Laws
+pub mod Settled

@@ -1,0 +1,52 @@
+//! Laws of errands: which reorderings of a run there are, and where one of them hangs. Each function
+//! is a theorem, and does nothing.
+
+ghost use Rattle.wit_errands.specs.Examples.{InTurnReverses};
+ghost use Rattle.wit_errands.specs.Laws.{
+  GatesKeepApart,
+  HangingErrandsMeet,
+  LocksDecide,
+  MeetingErrandsHang,
+  ReversalsHang,
+};
+
+/// Whether the deeds of threads can come in another sequence is decided by the locks alone: no
+/// thread is answered otherwise for it, but that a check may teach or break another order. So who
+/// looks for a reordering needs to look at the locks, and not at what the verifier knows.
+pub fn law_locks_decide()
+    ensures { LocksDecide }
+{}
+
+/// A reversal hangs: of two threads each asks for a lock that the other has at its own request, and
+/// no step that leads the one there needs what the other has then. So a reordering of the run
+/// reaches a deadlock of these two.
+pub fn law_reversal_hangs()
+    ensures { ReversalsHang }
+{}
+
+/// Errands that can be gone together hang: threads ask for what the next one has, in a round, and
+/// there is a sequence of their ways that the locks admit, where nobody has anything before. So a
+/// reordering of the run reaches a deadlock of these threads, however far apart they did all of it.
+pub fn law_meeting_errands_hang()
+    ensures { MeetingErrandsHang }
+{}
+
+/// And only such errands do: threads that a reordering leads to a deadlock have errands that can be
+/// gone together, in which each asks for what the next one has. So where the errands of no threads
+/// meet in a round, no reordering hangs.
+pub fn law_hanging_errands_meet()
+    ensures { HangingErrandsMeet }
+{}
+
+/// A gate keeps a reversal from hanging: two threads that have one lock at their requests, and not
+/// both as readers, are never both at these requests, whatever order they go in.
+pub fn law_gates_keep_apart()
+    ensures { GatesKeepApart }
+{}
+
+/// The law of reversals isn't empty: there is a run of two threads, the one after the other, that
+/// meets its premises. The reordering is that in which each has its first lock as it asks for the
+/// other's.
+pub fn law_reversal_found()
+    ensures { InTurnReverses }
+{}
