@@ -8,7 +8,7 @@ use Rattle.wit_model.specs.World.Deeds.{Deed, shares, raw_mode}
 use Rattle.wit_model.specs.World.Reordering.{IsReordering}
 use Rattle.wit_model.proofs.World.Exclusion.{exclusive_alone}
 use Rattle.wit_errands.specs.Errands.{Errand, keeps, IsAtRequest}
-use Rattle.wit_errands.proofs.Reversed.{shares-then, mode-then}
+use Rattle.wit_errands.proofs.Waiting.{has-there}
 
 pub kept-apart : (start : Start) (first deeds v : List Deed) (t u l : ℕ)
     (a : Errand t first deeds) (b : Errand u first deeds)
@@ -20,17 +20,19 @@ kept-apart start first deeds v t u l a b nothing other had gate reordered mine t
     and_parts (nat_lt 0 (shares u l b.way))
     (is_exclusive (raw_mode u l b.way) || is_exclusive (raw_mode t l a.way)) gate in
     let some = ltb-true 0 (shares u l b.way) parts.0 in
+    let a-has = has-there u t first deeds b a v theirs mine nothing in
+    let b-has = has-there t u first deeds a b v mine theirs nothing in
     let one =
-    subst (λ n. 0 < n) (sym (shares-then u t first deeds b a v theirs mine nothing l)) had in
+    subst (λ n. 0 < n) (sym (a-has.counts l)) had in
     let two =
-    subst (λ n. 0 < n) (sym (shares-then t u first deeds a b v mine theirs nothing l)) some in
+    subst (λ n. 0 < n) (sym (b-has.counts l)) some in
     let files = reordered.files in
     let world = reordered.world in
     let t-mild = exclusive_alone start files v t u l world other one two in
     let u-mild =
     exclusive_alone start files v u t l world (λ (e : t ≡ u). other (sym e)) two one in
-    let t-mode = mode-then u t first deeds b a v theirs mine nothing l had in
-    let u-mode = mode-then t u first deeds a b v mine theirs nothing l some in
+    let t-mode = a-has.modes l had in
+    let u-mode = b-has.modes l some in
     true≢false (sym parts.1
     ∙ or_from (is_exclusive (raw_mode u l b.way)) (is_exclusive (raw_mode t l a.way))
     (ap is_exclusive (sym u-mode) ∙ u-mild) (ap is_exclusive (sym t-mode) ∙ t-mild))

@@ -1,11 +1,17 @@
 pub mod Answers
+pub mod Bars
 pub mod Calm
+pub mod Ends
 pub mod Found
 pub mod Gated
+pub mod Having
 pub mod InTurn
+pub mod Late
 pub mod Looks
+pub mod Meeting
 pub mod Moments
 pub mod Passed
+pub mod Redone
 pub mod Replayed
 pub mod Reversed
 pub mod Roomy
@@ -13,4 +19,6 @@ pub mod Rounds
 pub mod Seats
 pub mod Segments
 pub mod Sums
+pub mod Threads
 pub mod Verdicts
+pub mod Waiting

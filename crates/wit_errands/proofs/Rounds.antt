@@ -15,12 +15,14 @@ use Rattle.wit_model.proofs.World.Own.{shares-own}
 use Rattle.wit_errands.specs.Settled.{IsSettled, is_free, are_free}
 use Rattle.wit_errands.specs.Errands.{Asker, AsksOther, AskOn, IsRound, is_asker, AreApart}
 use Rattle.wit_errands.specs.Errands.{errand_of, threads_of, is_in_way, Meet}
-use Rattle.wit_errands.proofs.Looks.{alike-whole, shares-over, mode-over}
-use Rattle.wit_errands.proofs.Replayed.{looks-own, locks-decide, free-same}
-use Rattle.wit_errands.proofs.Segments.{Mine, own-all, own-none, own-append, IsPart, part-free}
-use Rattle.wit_errands.proofs.Segments.{none-in_way, all-none}
-use Rattle.wit_errands.proofs.Reversed.{upto, mine-upto, mine-parts, begins-as, IsDone, waits}
+use Rattle.wit_errands.proofs.Looks.{alike-whole, shares-over}
 use Rattle.std.proofs.lemmas.List.{map-append}
+use Rattle.wit_errands.proofs.Replayed.{locks-decide}
+use Rattle.wit_errands.proofs.Having.{has-over, free-same}
+use Rattle.wit_errands.proofs.Threads.{Mine, own-all, own-none, own-append, looks-own}
+use Rattle.wit_errands.proofs.Bars.{none-in_way, all-none}
+use Rattle.wit_errands.proofs.Segments.{IsPart, part-free}
+use Rattle.wit_errands.proofs.Waiting.{upto, mine-upto, mine-parts, begins-as, IsDone, waits}
 
 module _ (start : Start) (files : List (List ℕ)) (first deeds : List Deed)
     (settled : IsSettled start files first deeds) where
@@ -154,8 +156,7 @@ module _ (start : Start) (files : List (List ℕ)) (first deeds : List Deed)
       let parts =
       and_parts (is_free start.sizes.seats d m) (are_free start.sizes.seats m) free in
       and_from (is_free start.sizes.seats d (m ++ z)) (are_free start.sizes.seats (m ++ z))
-      (free-same start.sizes.seats (m ++ z) m (λ t l. shares-over t l m z (none t l))
-      (λ t l some. mode-over t l m z some) d ∙ parts.0)
+      (free-same start.sizes.seats (m ++ z) m (λ t. has-over t m z (none t)) d ∙ parts.0)
       (free-over m z none past parts.1)
 
   -- ---- and the deadlock

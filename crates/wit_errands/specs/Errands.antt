@@ -102,3 +102,8 @@ module _ {first deeds : List Deed} where
     pub together : List Deed
     pub errands : (t : ℕ) → map kept (own t together) ≡ map kept (errand_of askers t)
     pub free : are_free threads together ≡ true
+
+  -- each of their threads is at its request in v
+  abbrev pub AllAtRequest : List (Asker first deeds) → List Deed → Type 0
+  AllAtRequest [] v = Unit {0}
+  AllAtRequest (a ∷ others) v = IsAtRequest a.errand v × AllAtRequest others v

@@ -9,7 +9,7 @@ use Rattle.wit_model.specs.World.Reordering.{kept, IsReordering}
 use Rattle.wit_errands.specs.Settled.{IsSettled, are_free}
 use Rattle.wit_errands.specs.Errands.{Errand, AsksFor, keeps, is_in_way, IsAtRequest}
 use Rattle.wit_errands.specs.Errands.{Asker, IsRound}
-use Rattle.wit_errands.specs.Errands.{AreApart, AreDistinct, threads_of, Meet}
+use Rattle.wit_errands.specs.Errands.{AreApart, threads_of, Meet, AllAtRequest}
 
 -- after the first part of a settled run, deeds of its threads can come in any sequence that the
 -- locks admit
@@ -43,14 +43,24 @@ MeetingErrandsHang =
     → (v : List Deed) × IsReordering start (v ++ first) (deeds ++ first)
     × IsDeadlock (v ++ first) (threads_of askers)
 
--- and only so: where a reordering reaches a deadlock of threads, they have such errands
+-- threads that a reordering leads to a deadlock are each at the end of an errand
+abbrev pub HangingThreadsAsk : Type 0
+HangingThreadsAsk =
+    (start : Start) (first deeds v : List Deed) (threads : List ℕ)
+    → ((t l : ℕ) → shares t l first ≡ 0) → IsReordering start (v ++ first) (deeds ++ first)
+    → IsDeadlock (v ++ first) threads
+    → (askers : List (Asker first deeds)) × (threads_of askers ≡ threads)
+    × AllAtRequest askers (v ++ first)
+
+-- and in whatever errands led there, from whichever moments without a lock, each asks for what the
+-- next one has, in a round, and the errands alone can be gone together
 abbrev pub HangingErrandsMeet : Type 0
 HangingErrandsMeet =
-    (start : Start) (first deeds v : List Deed) (threads : List ℕ)
-    → ((t l : ℕ) → shares t l first ≡ 0) → AreDistinct threads
-    → IsReordering start (v ++ first) (deeds ++ first) → IsDeadlock (v ++ first) threads
-    → (askers : List (Asker first deeds)) × (threads_of askers ≡ threads) × AreApart askers
-    × IsRound askers × Meet start.sizes.seats askers
+    (start : Start) (first deeds v : List Deed) (askers : List (Asker first deeds))
+    → ((t l : ℕ) → shares t l first ≡ 0) → AreApart askers
+    → IsReordering start (v ++ first) (deeds ++ first)
+    → IsDeadlock (v ++ first) (threads_of askers) → AllAtRequest askers (v ++ first)
+    → IsRound askers × Meet start.sizes.seats askers
 
 -- two threads that have one lock at their requests, and not both as readers, are never there at one
 -- moment

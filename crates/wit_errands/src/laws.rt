@@ -5,6 +5,7 @@ ghost use Rattle.wit_errands.specs.Examples.{InTurnReverses};
 ghost use Rattle.wit_errands.specs.Laws.{
   GatesKeepApart,
   HangingErrandsMeet,
+  HangingThreadsAsk,
   LocksDecide,
   MeetingErrandsHang,
   ReversalsHang,
@@ -31,11 +32,12 @@ pub fn law_meeting_errands_hang()
     ensures { MeetingErrandsHang }
 {}
 
-/// And only such errands do: threads that a reordering leads to a deadlock have errands that can be
-/// gone together, in which each asks for what the next one has. So where the errands of no threads
-/// meet in a round, no reordering hangs.
+/// And only such errands do. Threads that a reordering leads to a deadlock are at the ends of errands;
+/// and in whatever errands led there, each asks for what the next one has, and they can be gone
+/// together. So where no errands meet in a round, no reordering hangs.
 pub fn law_hanging_errands_meet()
-    ensures { HangingErrandsMeet }
+    ensures ask { HangingThreadsAsk }
+    ensures meet { HangingErrandsMeet }
 {}
 
 /// A gate keeps a reversal from hanging: two threads that have one lock at their requests, and not
