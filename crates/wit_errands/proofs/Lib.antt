@@ -4,6 +4,8 @@ pub mod Calm
 pub mod Ends
 pub mod Found
 pub mod Gated
+pub mod GatedRun
+pub mod GatedRuns
 pub mod Having
 pub mod InTurn
 pub mod Late

@@ -3,7 +3,12 @@ use Rattle.std.specs.Prelude.{ℕ, ◌≡◌, false, List, ◌++◌, reverse, co
 use Rattle.std.specs.List.{list_any}
 use Rattle.wit_model.specs.declared.calls.Reply.{Reply}
 use Rattle.wit_model.specs.declared.calls.Reply.TheVariants.{Pass, Adopted}
-use Rattle.wit_model.specs.World.Deeds.{Deed}
+use Rattle.wit_model.specs.declared.profiles.Profile.TheVariants.{Plain}
+use Rattle.wit_model.specs.Rules.Clean.{is_clean}
+use Rattle.wit_model.specs.World.Deeds.{Deed, log_of}
+use Rattle.wit_model.specs.World.Steps.{IsWorld}
+use Rattle.wit_model.specs.World.Waiting.{IsDeadlock}
+use Rattle.wit_model.specs.World.Reordering.{IsReordering}
 use Rattle.wit_model.specs.World.Examples.{small, files, makes_mutex, asks, locks, unlocks, reverses}
 use Rattle.wit_model.specs.World.Examples.{in_turn}
 use Rattle.wit_errands.specs.Settled.{IsSettled}
@@ -29,3 +34,32 @@ InTurnReverses =
     (in_turn ≡ then_in_turn ++ two_made) × IsSettled small files two_made then_in_turn
     × ((a : Errand 1 two_made then_in_turn) × (b : Errand 2 two_made then_in_turn) × AsksFor a b
     × AsksFor b a × (list_any (is_in_way 1 a.way) b.way ≡ false))
+
+-- ---- with a gate
+
+abbrev pub three_made : List Deed
+three_made =
+    reverse (makes_mutex (codes "G") 1 ++ makes_mutex (codes "A") 2 ++ makes_mutex (codes "B") 3)
+
+-- both take G first: under it the first thread takes A and then B, and frees all; and the second
+-- takes B, and asks for A
+abbrev pub then_gated : List Deed
+then_gated =
+    reverse (locks 1 1 1 Pass ++ locks 1 2 2 (learns 1 2) ++ locks 1 3 3 (learns 2 3)
+    ++ unlocks 1 3 ++ unlocks 1 2 ++ unlocks 1 1
+    ++ locks 2 1 4 Pass ++ locks 2 3 5 (learns 1 3) ++ asks 2 2 6 (reverses 3 5 2 6))
+
+abbrev pub gated : List Deed
+gated = then_gated ++ three_made
+
+-- a reversal is reported, and each thread asks for what the other one has at its request
+abbrev pub GatedReverses : Type 0
+GatedReverses =
+    IsWorld small files gated × (is_clean Plain (log_of gated) ≡ false)
+    × ((a : Errand 1 three_made then_gated) × (b : Errand 2 three_made then_gated) × AsksFor a b
+    × AsksFor b a)
+
+-- and no reordering hangs
+abbrev pub GatedHasNone : Type 0
+GatedHasNone =
+    (v : List Deed) (threads : List ℕ) → IsReordering small v gated → IsDeadlock v threads → ⊥

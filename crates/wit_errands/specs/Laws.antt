@@ -1,9 +1,12 @@
 -- Laws of errands.
 use Rattle.std.specs.Prelude.{ℕ, ◌<◌, ◌≡◌, true, false, List, [], ◌∷◌, ◌++◌, map}
 use Rattle.std.specs.List.{list_any}
+use Rattle.wit_model.specs.declared.calls.Request.{Request}
 use Rattle.wit_model.specs.Rules.Beginnings.{IsBeginning}
 use Rattle.wit_model.specs.Rules.State.{Start}
+use Rattle.wit_model.specs.Rules.Verdict.{is_exclusive}
 use Rattle.wit_model.specs.World.Deeds.{Deed, own, shares, raw_mode}
+use Rattle.wit_model.specs.World.Stages.{Asked, stage}
 use Rattle.wit_model.specs.World.Waiting.{IsDeadlock}
 use Rattle.wit_model.specs.World.Reordering.{kept, IsReordering}
 use Rattle.wit_errands.specs.Settled.{IsSettled, are_free}
@@ -71,3 +74,16 @@ GatesKeepApart =
     → ((i k : ℕ) → shares i k first ≡ 0) → (u ≡ t → ⊥) → 0 < shares t l a.way
     → keeps u b.way l (raw_mode t l a.way) ≡ true → IsReordering start v (deeds ++ first)
     → IsAtRequest a v → IsAtRequest b v → ⊥
+
+-- whoever asks for a lock while it has one has the gate, exclusively
+abbrev pub IsGated : ℕ → List Deed → Type 0
+IsGated gate w =
+    (later now : List Deed) (t l : ℕ) (q : Request) → w ≡ later ++ now
+    → stage t (own t now) ≡ Asked q → 0 < shares t l now
+    → (0 < shares t gate now) × (is_exclusive (raw_mode t gate now) ≡ true)
+
+-- no reordering of such a run has a deadlock
+abbrev pub GatedRunsNeverHang : Type 0
+GatedRunsNeverHang =
+    (start : Start) (v w : List Deed) (threads : List ℕ) (gate : ℕ) → IsGated gate w
+    → IsReordering start v w → IsDeadlock v threads → ⊥

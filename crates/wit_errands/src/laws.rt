@@ -1,8 +1,9 @@
 //! Laws of errands: which reorderings of a run there are, and where one of them hangs. Each function
 //! is a theorem, and does nothing.
 
-ghost use Rattle.wit_errands.specs.Examples.{InTurnReverses};
+ghost use Rattle.wit_errands.specs.Examples.{GatedHasNone, GatedReverses, InTurnReverses};
 ghost use Rattle.wit_errands.specs.Laws.{
+  GatedRunsNeverHang,
   GatesKeepApart,
   HangingErrandsMeet,
   HangingThreadsAsk,
@@ -44,6 +45,19 @@ pub fn law_hanging_errands_meet()
 /// both as readers, are never both at these requests, whatever order they go in.
 pub fn law_gates_keep_apart()
     ensures { GatesKeepApart }
+{}
+
+/// A run hangs in no sequence in which whoever asks for a lock while it has one has a gate too.
+pub fn law_gated_runs()
+    ensures { GatedRunsNeverHang }
+{}
+
+/// Such a run may have a report: here each of two threads asks for what the other one has at its
+/// request, a reversal is reported, and no reordering hangs. So a report alone doesn't say that
+/// threads can hang.
+pub fn law_gated_reversal()
+    ensures report { GatedReverses }
+    ensures none { GatedHasNone }
 {}
 
 /// The law of reversals isn't empty: there is a run of two threads, the one after the other, that
