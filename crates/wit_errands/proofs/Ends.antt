@@ -3,9 +3,28 @@ use Rattle.std.proofs.Common.{◌≡◌}
 use Rattle.std.proofs.Common.{List, [], ◌∷◌, ◌++◌, map, length, refl, ap, ap₂}
 use Rattle.std.proofs.Common.{arith, length-append}
 use Rattle.std.proofs.Common.{◌≤◌}
+use Rattle.std.proofs.Common.{sym}
 use Rattle.wit_model.specs.World.Deeds.{Deed}
 use Rattle.wit_model.specs.World.Reordering.{kept}
 use Rattle.std.proofs.lemmas.List.{length-map}
+
+-- of two parts into which a list falls in two ways
+pub data Overlap (d f a s : List Deed) : Type 0 where
+  Longer : (m : List Deed) → s ≡ m ++ f → d ≡ a ++ m → Overlap d f a s
+  Shorter : (m : List Deed) → f ≡ m ++ s → Overlap d f a s
+
+overlap-more : (x y : Deed) (d f a s : List Deed) → x ≡ y → Overlap d f a s
+    → Overlap (x ∷ d) f (y ∷ a) s
+overlap-more x y d f a s head (Longer m one two) = Longer m one (ap₂ (λ b c. b ∷ c) head two)
+overlap-more x y d f a s head (Shorter m one) = Shorter m one
+
+pub overlap : (d f a s : List Deed) → d ++ f ≡ a ++ s → Overlap d f a s
+overlap [] f a s same = Shorter a same
+overlap (x ∷ d) f [] s same = Longer (x ∷ d) (sym same) refl
+overlap (x ∷ d) f (y ∷ a) s same =
+    let whole : x ∷ (d ++ f) ≡ y ∷ (a ++ s) = same in
+    let head : x ≡ y = cc in
+    let tail : d ++ f ≡ a ++ s = cc in overlap-more x y d f a s head (overlap d f a s tail)
 
 pub cancel : (xs ys zs : List Deed) → xs ++ zs ≡ ys ++ zs → xs ≡ ys
 cancel [] [] zs same = refl

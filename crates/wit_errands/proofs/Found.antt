@@ -2,8 +2,9 @@
 -- first part of the run.
 use Rattle.std.proofs.Common.{◌≡◌, ℕ, ◌<◌, false, eqb, nat_lt}
 use Rattle.std.proofs.Common.{List, [], ◌∷◌, ◌++◌, map, refl, ap, ap₂, sym, ◌∙◌}
-use Rattle.std.proofs.Common.{arith, append-nil, append_assoc}
+use Rattle.std.proofs.Common.{arith, append-nil}
 use Rattle.std.specs.List.{list_all}
+use Rattle.std.specs.List.{list_any}
 use Rattle.std.proofs.lemmas.Bool.{and_parts}
 use Rattle.std.proofs.lemmas.List.Folds.{list_all-append}
 use Rattle.wit_model.specs.declared.calls.Request.{Request}
@@ -19,28 +20,33 @@ use Rattle.wit_model.specs.World.Stages.{Asked, stage}
 use Rattle.wit_model.specs.World.Waiting.{IsWaiting, IsDeadlock}
 use Rattle.wit_model.specs.World.Reordering.{kept, IsReordering}
 use Rattle.wit_model.proofs.World.Own.{shares-own, asked-deed, kept-check}
+use Rattle.wit_model.proofs.World.Own.{shares-kept}
 use Rattle.wit_errands.specs.Errands.{Errand, Asker}
 use Rattle.wit_errands.specs.Errands.{threads_of}
 use Rattle.wit_errands.specs.Errands.{AllAtRequest}
-use Rattle.wit_errands.proofs.Looks.{Alike, alike-whole, held-alike, shares-over, looks-append}
+use Rattle.wit_errands.proofs.Looks.{Alike, held-alike}
 use Rattle.wit_errands.proofs.Threads.{own-all, own-mine-all, own-append}
-use Rattle.wit_errands.proofs.Ends.{cancel, ends}
+use Rattle.wit_errands.proofs.Ends.{ends}
+use Rattle.wit_errands.proofs.Ends.{Overlap, Longer, Shorter, overlap}
 use Rattle.wit_errands.proofs.Waiting.{IsDone, check-num}
+use Rattle.wit_errands.specs.Settled.{gets}
+use Rattle.wit_errands.proofs.Silent.{silent-none, silent-own, silent-later}
 
 -- ---- the errands
 
-module _ (first deeds v : List Deed) (nothing : (t l : ℕ) → shares t l first ≡ 0)
-    (begins : (t : ℕ) → IsBeginning (map kept (own t v)) (map kept (own t deeds))) where
+module _ (first deeds v : List Deed) (quiet : list_any gets first ≡ false)
+    (begins : (t : ℕ) → IsBeginning (map kept (own t v)) (map kept (own t (deeds ++ first)))) where
   -- an errand of a thread that stands at its request
   record IsFound (t : ℕ) : Type 0 where
     errand : Errand t first deeds
-    done : IsDone t first deeds errand (v ++ first)
+    done : IsDone t first deeds errand v
 
-  module _ (t : ℕ) (q : Request) (asks : stage t (own t (v ++ first)) ≡ Asked q)
-      (unheld : is_held t q.lock.0 (log_of (v ++ first)) ≡ false) where
+  module _ (t : ℕ) (q : Request) (asks : stage t (own t v) ≡ Asked q)
+      (unheld : is_held t q.lock.0 (log_of v) ≡ false) where
     -- where its deeds are these in the run
     found-as : (x : Entry) (after way : List Deed) → own t deeds ≡ after ++ (Logged x ∷ way)
-        → x.call ≡ Check q → map kept (own t v) ≡ map kept (Logged x ∷ way) → IsFound t
+        → x.call ≡ Check q → map kept (own t v) ≡ map kept ((Logged x ∷ way) ++ own t first)
+        → IsFound t
     found-as x after way whole call looks =
         let mine =
         (and_parts (list_all (λ d. eqb (thread_of d) t) after)
@@ -48,16 +54,15 @@ module _ (first deeds v : List Deed) (nothing : (t l : ℕ) → shares t l first
         (sym (list_all-append (λ d. eqb (thread_of d) t) after (Logged x ∷ way))
         ∙ (ap (λ o. list_all (λ d. eqb (thread_of d) t) o) (sym whole)
         ∙ own-mine-all t deeds))).1 in
-        let done : Alike t (v ++ first) ((Logged x ∷ (way ++ [])) ++ first) =
-        alike-whole t v (Logged x ∷ (way ++ [])) first
-        (looks ∙ ap (λ o. map kept o)
-        (sym (ap (λ o. own t (Logged x ∷ o)) (append-nil way) ∙ own-all t (Logged x ∷ way) mine)))
-        in
+        let done : Alike t v ((Logged x ∷ (way ++ [])) ++ first) =
+        looks ∙ ap (λ o. map kept o)
+        (sym (own-append t (Logged x ∷ (way ++ [])) first
+        ∙ ap (λ o. o ++ own t first)
+        (ap (λ o. own t (Logged x ∷ o)) (append-nil way) ∙ own-all t (Logged x ∷ way) mine))) in
         let free =
         ap (λ n. nat_lt 0 n)
         (sym (check-num t q.lock.0 x (log_of ((way ++ []) ++ first)) q call))
-        ∙ (sym (held-alike t q.lock.0 (v ++ first) ((Logged x ∷ (way ++ [])) ++ first) done)
-        ∙ unheld) in
+        ∙ (sym (held-alike t q.lock.0 v ((Logged x ∷ (way ++ [])) ++ first) done) ∙ unheld) in
         record {
           errand = record {
             before = [];
@@ -73,54 +78,71 @@ module _ (first deeds v : List Deed) (nothing : (t l : ℕ) → shares t l first
           done = done;
         }
 
-    found-by : (d : Deed) (o : List Deed) → own t v ≡ d ∷ o → IsFound t
-    found-by d o is =
-        let made = asked-deed t (own t (v ++ first)) q asks in
-        let whole : d ∷ (o ++ own t first) ≡ Logged made.0 ∷ made.1 =
-        sym (own-append t v first ∙ ap (λ x. x ++ own t first) is) ∙ made.2 in
-        let head : d ≡ Logged made.0 = cc in
+    -- its deeds in the first part alone leave it nothing
+    module _ (l : ℕ) (had : 0 < shares t l v) (x : Deed) (before : List Deed)
+        (looks : map kept (own t v) ≡ map kept (x ∷ before)) where
+      not-quiet : (m : List Deed) → own t first ≡ m ++ (x ∷ before) → ⊥
+      not-quiet m whole =
+          let silent =
+          silent-later m (x ∷ before)
+          (ap (λ o. list_any gets o) (sym whole) ∙ silent-own t first quiet) in
+          let none =
+          sym (shares-own t l v)
+          ∙ (sym (shares-kept t l (own t v))
+          ∙ (ap (λ o. shares t l o) looks
+          ∙ (shares-kept t l (x ∷ before) ∙ silent-none t l (x ∷ before) silent))) in
+          omega (arith, none, had)
+
+      found-over : (e : Entry) (after : List Deed) → x ≡ Logged e → e.call ≡ Check q
+          → Overlap (own t deeds) (own t first) after (x ∷ before) → IsFound t
+      found-over e after is call (Shorter m whole) = absurd (not-quiet m whole)
+      found-over e after is call (Longer [] whole more) = absurd (not-quiet [] (sym whole))
+      found-over e after is call (Longer (y ∷ way) whole more) =
+          let both : x ∷ before ≡ y ∷ (way ++ own t first) = whole in
+          let head : x ≡ y = cc in
+          let same = sym head ∙ is in
+          found-as e after way (more ∙ ap (λ a. after ++ (a ∷ way)) same) call
+          (looks ∙ (ap (λ o. map kept o) whole
+          ∙ ap (λ a. map kept ((a ∷ way) ++ own t first)) same))
+
+    found-by : (l : ℕ) → 0 < shares t l v → IsFound t
+    found-by l had =
+        let made = asked-deed t (own t v) q asks in
         let b = begins t in
-        let e = ends d o (own t deeds) b.0 (b.1 ∙ ap (λ x. b.0 ++ map kept x) is) in
-        let check =
-        kept-check e.last made.0 q (e.looks ∙ ap kept head) made.3 in
-        found-as check.0 e.after e.before
-        (e.whole ∙ ap (λ x. e.after ++ (x ∷ e.before)) check.1) check.2
-        (ap (λ x. map kept x) is
-        ∙ (ap₂ (λ x xs. x ∷ xs) (sym e.looks) (sym e.same)
-        ∙ ap (λ x. kept x ∷ map kept e.before) check.1))
+        let e =
+        ends (Logged made.0) made.1 (own t (deeds ++ first)) b.0
+        (b.1 ∙ ap (λ x. b.0 ++ map kept x) made.2) in
+        let check = kept-check e.last made.0 q e.looks made.3 in
+        found-over l had e.last e.before
+        (ap (λ x. map kept x) made.2 ∙ ap₂ (λ x xs. x ∷ xs) (sym e.looks) (sym e.same)) check.0
+        e.after check.1 check.2
+        (overlap (own t deeds) (own t first) e.after (e.last ∷ e.before)
+        (sym (own-append t deeds first) ∙ e.whole))
 
-    found-from : (o : List Deed) → own t v ≡ o → (l : ℕ) → 0 < shares t l (v ++ first) → IsFound t
-    found-from [] is l had =
-        absurd (let none = sym (shares-own t l v) ∙ ap (λ o. shares t l o) is in
-        let over = shares-over t l v first (nothing t l) in
-        let no : ⊥ = omega (arith, none, over, had) in no)
-    found-from (d ∷ o) is l had = found-by d o is
-
-  find : (t u : ℕ) → IsWaiting (v ++ first) t u → (l : ℕ) → 0 < shares t l (v ++ first)
-      → IsFound t
-  find t u x l had = found-from t x.request x.asks x.unheld (own t v) refl l had
+  find : (t u : ℕ) → IsWaiting v t u → (l : ℕ) → 0 < shares t l v → IsFound t
+  find t u x l had = found-by t x.request x.asks x.unheld l had
 
   asker : (t : ℕ) → IsFound t → Asker first deeds
   asker t f = record { thread = t; errand = f.errand }
 
   -- ---- a queue of them
 
-  next-waits : (t : ℕ) (ts : List ℕ) (last : ℕ) → IsQueue (IsWaiting (v ++ first)) t ts last
-      → (u : ℕ) × IsWaiting (v ++ first) t u
+  next-waits : (t : ℕ) (ts : List ℕ) (last : ℕ) → IsQueue (IsWaiting v) t ts last
+      → (u : ℕ) × IsWaiting v t u
   next-waits t [] last queue = (last, queue)
   next-waits t (c ∷ ts) last queue = (c, queue.0)
 
-  last-waits : (t : ℕ) (ts : List ℕ) (last : ℕ) → IsQueue (IsWaiting (v ++ first)) t ts last
-      → (p : ℕ) × IsWaiting (v ++ first) p last
+  last-waits : (t : ℕ) (ts : List ℕ) (last : ℕ) → IsQueue (IsWaiting v) t ts last
+      → (p : ℕ) × IsWaiting v p last
   last-waits t [] last queue = (t, queue)
   last-waits t (c ∷ ts) last queue = last-waits c ts last queue.1
 
   record Line (ts : List ℕ) : Type 0 where
     others : List (Asker first deeds)
     threads : threads_of others ≡ ts
-    there : AllAtRequest others (v ++ first)
+    there : AllAtRequest others v
 
-  line : (t : ℕ) (ts : List ℕ) (last : ℕ) → IsQueue (IsWaiting (v ++ first)) t ts last → Line ts
+  line : (t : ℕ) (ts : List ℕ) (last : ℕ) → IsQueue (IsWaiting v) t ts last → Line ts
   unfolding asker
   line t [] last queue = record { others = []; threads = refl; there = tt }
   line t (c ∷ ts) last queue =
@@ -133,9 +155,9 @@ module _ (first deeds v : List Deed) (nothing : (t l : ℕ) → shares t l first
         there = (h.done, rest.there);
       }
 
-  hanging-found : (threads : List ℕ) → IsDeadlock (v ++ first) threads
+  hanging-found : (threads : List ℕ) → IsDeadlock v threads
       → (askers : List (Asker first deeds)) × (threads_of askers ≡ threads)
-      × AllAtRequest askers (v ++ first)
+      × AllAtRequest askers v
   unfolding asker
   hanging-found [] circle = absurd circle
   hanging-found (t ∷ ts) circle =
@@ -149,16 +171,8 @@ module _ (first deeds v : List Deed) (nothing : (t l : ℕ) → shares t l first
       )
 
 pub hanging-have : (start : Start) (first deeds v : List Deed) (threads : List ℕ)
-    → ((t l : ℕ) → shares t l first ≡ 0) → IsReordering start (v ++ first) (deeds ++ first)
-    → IsDeadlock (v ++ first) threads
+    → list_any gets first ≡ false → IsReordering start v (deeds ++ first) → IsDeadlock v threads
     → (askers : List (Asker first deeds)) × (threads_of askers ≡ threads)
-    × AllAtRequest askers (v ++ first)
-hanging-have start first deeds v threads nothing reordered circle =
-    hanging-found first deeds v nothing
-    (λ t. let b = reordered.same t in (
-      b.0,
-      cancel (map kept (own t deeds)) (b.0 ++ map kept (own t v)) (map kept (own t first))
-          (sym (looks-append t deeds first)
-          ∙ (b.1 ∙ (ap (λ o. b.0 ++ o) (looks-append t v first)
-          ∙ sym (append_assoc b.0 (map kept (own t v)) (map kept (own t first)))))),
-    )) threads circle
+    × AllAtRequest askers v
+hanging-have start first deeds v threads quiet reordered circle =
+    hanging-found first deeds v quiet reordered.same threads circle

@@ -1,10 +1,11 @@
 -- The run with a gate: a reversal is reported, and whoever asks while it has a lock has the gate.
 use Rattle.std.proofs.Common.{◌≡◌, ℕ, ◌<◌, Bool, true, false, ◌&&◌, ◌||◌, not, eqb, nat_lt, List, []}
 use Rattle.std.proofs.Common.{◌∷◌, ◌++◌, reverse, refl, ap, sym, ◌∙◌, subst, inl, inr, arith}
-use Rattle.std.proofs.Common.{cond, ◌-◌}
 use Rattle.std.specs.List.{list_all}
+use Rattle.std.specs.List.{list_any}
 use Rattle.std.proofs.lemmas.Bool.{and_parts, or_cases, eqb-true, ne_eqb}
-use Rattle.std.proofs.lemmas.Bool.{false≢true, ltb-true}
+use Rattle.std.proofs.lemmas.Bool.{ltb-true}
+use Rattle.std.proofs.lemmas.Bool.{not-true}
 use Rattle.std.proofs.lemmas.Bool.Decides.{eqb_tells}
 use Rattle.wit_model.specs.declared.locks.Mode.TheVariants.{Exclusive}
 use Rattle.wit_model.specs.declared.calls.Request.{Request}
@@ -13,8 +14,8 @@ use Rattle.wit_model.specs.declared.calls.Reply.TheVariants.{Pass, Adopted, Reco
 use Rattle.wit_model.specs.Rules.History.{num, place, mode, mark, site}
 use Rattle.wit_model.specs.Rules.SeatGroups.{seat_groups}
 use Rattle.wit_model.specs.Rules.Verdict.{is_exclusive}
-use Rattle.wit_model.specs.World.Deeds.{Deed, Logged, PassedOver, Take, TryTake, Free, RawUp}
-use Rattle.wit_model.specs.World.Deeds.{RawDown, thread_of, own, shares, raw_mode}
+use Rattle.wit_model.specs.World.Deeds.{Deed, Take}
+use Rattle.wit_model.specs.World.Deeds.{thread_of, own, shares, raw_mode}
 use Rattle.wit_model.specs.World.Stages.{Stage, Over, Asked, stage}
 use Rattle.wit_model.specs.World.Examples.{small, files, by, request, locks, unlocks}
 use Rattle.wit_model.specs.World.Examples as examples
@@ -25,6 +26,8 @@ use Rattle.wit_errands.specs.Errands.{Errand}
 use Rattle.wit_errands.specs.Examples.{three_made, then_gated, gated, GatedReverses, GatedHasNone}
 use Rattle.wit_errands.proofs.GatedRuns.{never-hangs}
 use Rattle.wit_errands.proofs.Threads.{own-append}
+use Rattle.wit_errands.specs.Settled.{gets}
+use Rattle.wit_errands.proofs.Silent.{silent-none}
 
 -- ---- the errands
 
@@ -78,34 +81,11 @@ is_asking : Stage → Bool
 is_asking (Asked q) = true
 is_asking _ = false
 
-gets : Deed → Bool
-gets (Take u l mode) = true
-gets (TryTake u l mode) = true
-gets _ = false
-
--- who got nothing has nothing
-silent-none : (t l : ℕ) (o : List Deed) → list_all (λ d. not (gets d)) o ≡ true
-    → shares t l o ≡ 0
-unfolding gets
-silent-none t l [] silent = refl
-silent-none t l (Take u m mode ∷ o) silent = absurd (false≢true silent)
-silent-none t l (TryTake u m mode ∷ o) silent = absurd (false≢true silent)
-silent-none t l (Free u m ∷ o) silent =
-    none-less (eqb u t && eqb m l) (shares t l o) (silent-none t l o silent)
-  where
-    none-less : (b : Bool) (n : ℕ) → n ≡ 0 → cond b (n - 1) n ≡ 0
-    none-less true n none = omega (arith, none)
-    none-less false n none = none
-silent-none t l (Logged e ∷ o) silent = silent-none t l o silent
-silent-none t l (PassedOver u c ∷ o) silent = silent-none t l o silent
-silent-none t l (RawUp u m ∷ o) silent = silent-none t l o silent
-silent-none t l (RawDown u m ∷ o) silent = silent-none t l o silent
-
 stands : ℕ → List Deed → Bool
 stands t now =
     not (is_asking (stage t (own t now)))
     || ((nat_lt 0 (shares t 1 now) && is_exclusive (raw_mode t 1 now))
-    || list_all (λ d. not (gets d)) (own t now))
+    || not (list_any gets (own t now)))
 
 all_stand : ℕ → List Deed → Bool
 all_stand t [] = stands t []
@@ -128,23 +108,23 @@ by-standing : (t l : ℕ) (q : Request) (now : List Deed) → stands t now ≡ t
 unfolding stands is_asking HasGate
 by-standing t l q now is asks had =
     elim (or_cases (nat_lt 0 (shares t 1 now) && is_exclusive (raw_mode t 1 now))
-    (list_all (λ d. not (gets d)) (own t now))
+    (not (list_any gets (own t now)))
     (sym (ap (λ s. not (is_asking s) || ((nat_lt 0 (shares t 1 now)
-    && is_exclusive (raw_mode t 1 now)) || list_all (λ d. not (gets d)) (own t now))) asks) ∙ is)) [
+    && is_exclusive (raw_mode t 1 now)) || not (list_any gets (own t now)))) asks) ∙ is)) [
       | inl gate ↦
           let parts =
           and_parts (nat_lt 0 (shares t 1 now)) (is_exclusive (raw_mode t 1 now)) gate in
           (ltb-true 0 (shares t 1 now) parts.0, parts.1)
-      | inr silent ↦ absurd (let none = sym (shares-own t l now) ∙ silent-none t l (own t now) silent
-          in let no : ⊥ = omega (arith, none, had) in no)
+      | inr silent ↦ absurd (let none = sym (shares-own t l now)
+          ∙ silent-none t l (own t now) (not-true (list_any gets (own t now)) silent) in let no : ⊥ = omega (arith, none, had) in no)
     ]
 
 first-stands : all_stand 1 gated ≡ true
-unfolding all_stand stands is_asking gets num
+unfolding all_stand stands is_asking num
 first-stands = refl
 
 second-stands : all_stand 2 gated ≡ true
-unfolding all_stand stands is_asking gets num
+unfolding all_stand stands is_asking num
 second-stands = refl
 
 -- only the two threads do anything

@@ -142,36 +142,28 @@ module _ (some : ℕ → Bool) (past : ℕ → ℕ) where
       (has-then t v (b.newer ++ b.older) b.newer (has-own t v (b.newer ++ b.older) b.whole)
       (has-over t b.newer b.older b.nothing)))
 
-  module _ (start : Start) (files : List (List ℕ)) (first : List Deed)
-      (nothing : (t l : ℕ) → shares t l first ≡ 0) where
-    has-there : (t : ℕ) (v : List Deed) → some t ≡ true → IsBegun t v
-        → HasSame t (late v) (v ++ first)
-    has-there t v is b =
-        has-then t (late v) v (v ++ first) (has-late t v is b)
-        (has-back t (v ++ first) v (has-over t v first (nothing t)))
-
+  module _ (start : Start) (files : List (List ℕ)) where
     away : (i : ℕ) (v : List Deed) → own i (late v) ≡ [] → (d : Deed)
         → is_in_way i (late v) d ≡ false
     away i v none =
         none-in_way i (late v) (λ l. sym (shares-own i l (late v)) ∙ ap (λ o. shares i l o) none)
 
-    others-away : (d : Deed) (v : List Deed) → IsWorld start files (d ∷ (v ++ first))
-        → AllBegun v → (i : ℕ) → (i ≡ thread_of d → ⊥) → is_in_way i (late v) d ≡ false
+    others-away : (d : Deed) (v : List Deed) → IsWorld start files (d ∷ v) → AllBegun v → (i : ℕ)
+        → (i ≡ thread_of d → ⊥) → is_in_way i (late v) d ≡ false
     others-away d v world begun i other =
         elim (cases_Bool (some i)) [
           | inl one ↦
               elim (cases_Bool (nat_le (past i) (length (own i v)))) [
-                | inl long ↦ in_way-same i (late v) (v ++ first)
-                    (has-there i v one
-                    (begun i one (leb-true (past i) (length (own i v)) long))) d
-                    ∙ not-in_way start files d (v ++ first) world i other
+                | inl long ↦ in_way-same i (late v) v
+                    (has-late i v one (begun i one (leb-true (past i) (length (own i v)) long))) d
+                    ∙ not-in_way start files d v world i other
                 | inr short ↦ away i v (none-yet i v
                     (let less = leb-false (past i) (length (own i v)) short in omega arith)) d
               ]
           | inr none ↦ away i v (own-outside i v none) d
         ]
 
-    pub late-free : (v : List Deed) → IsWorld start files (v ++ first)
+    pub late-free : (v : List Deed) → IsWorld start files v
         → ((later now : List Deed) → v ≡ later ++ now → AllBegun now)
         → are_free start.sizes.seats (late v) ≡ true
     unfolding late is_late
@@ -188,7 +180,7 @@ module _ (some : ℕ → Bool) (past : ℕ → ℕ) where
               ap (λ x. are_free start.sizes.seats x) (late-in d v is)
               ∙ and_from (is_free start.sizes.seats d (late v))
               (are_free start.sizes.seats (late v))
-              (step-free start files (v ++ first) (late v) d world.0
-              (has-there t v parts.0 here) (others-away d v world now)) before
+              (step-free start files v (late v) d world.0 (has-late t v parts.0 here)
+              (others-away d v world now)) before
           | inr none ↦ ap (λ x. are_free start.sizes.seats x) (late-out d v none) ∙ before
         ]

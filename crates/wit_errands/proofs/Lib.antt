@@ -1,6 +1,7 @@
 pub mod Answers
 pub mod Bars
 pub mod Calm
+pub mod Decided
 pub mod Ends
 pub mod Found
 pub mod Gated
@@ -20,6 +21,7 @@ pub mod Roomy
 pub mod Rounds
 pub mod Seats
 pub mod Segments
+pub mod Silent
 pub mod Sums
 pub mod Threads
 pub mod Verdicts

@@ -1,5 +1,5 @@
 -- Laws of errands.
-use Rattle.std.specs.Prelude.{ℕ, ◌<◌, ◌≡◌, true, false, List, [], ◌∷◌, ◌++◌, map}
+use Rattle.std.specs.Prelude.{ℕ, ◌<◌, ◌≡◌, ◌↔◌, true, false, List, [], ◌∷◌, ◌++◌, map}
 use Rattle.std.specs.List.{list_any}
 use Rattle.wit_model.specs.declared.calls.Request.{Request}
 use Rattle.wit_model.specs.Rules.Beginnings.{IsBeginning}
@@ -9,10 +9,10 @@ use Rattle.wit_model.specs.World.Deeds.{Deed, own, shares, raw_mode}
 use Rattle.wit_model.specs.World.Stages.{Asked, stage}
 use Rattle.wit_model.specs.World.Waiting.{IsDeadlock}
 use Rattle.wit_model.specs.World.Reordering.{kept, IsReordering}
-use Rattle.wit_errands.specs.Settled.{IsSettled, are_free}
+use Rattle.wit_errands.specs.Settled.{IsSettled, gets, are_free}
 use Rattle.wit_errands.specs.Errands.{Errand, AsksFor, keeps, is_in_way, IsAtRequest}
 use Rattle.wit_errands.specs.Errands.{Asker, IsRound}
-use Rattle.wit_errands.specs.Errands.{AreApart, threads_of, Meet, AllAtRequest}
+use Rattle.wit_errands.specs.Errands.{AreApart, AreDistinct, threads_of, Meet, AllAtRequest}
 
 -- after the first part of a settled run, deeds of its threads can come in any sequence that the
 -- locks admit
@@ -46,24 +46,32 @@ MeetingErrandsHang =
     → (v : List Deed) × IsReordering start (v ++ first) (deeds ++ first)
     × IsDeadlock (v ++ first) (threads_of askers)
 
--- threads that a reordering leads to a deadlock are each at the end of an errand
+-- where nobody gets a lock in the first part, threads that a reordering leads to a deadlock are each
+-- at the end of an errand
 abbrev pub HangingThreadsAsk : Type 0
 HangingThreadsAsk =
-    (start : Start) (first deeds v : List Deed) (threads : List ℕ)
-    → ((t l : ℕ) → shares t l first ≡ 0) → IsReordering start (v ++ first) (deeds ++ first)
-    → IsDeadlock (v ++ first) threads
-    → (askers : List (Asker first deeds)) × (threads_of askers ≡ threads)
-    × AllAtRequest askers (v ++ first)
+    (start : Start) (first deeds v : List Deed) (threads : List ℕ) → list_any gets first ≡ false
+    → IsReordering start v (deeds ++ first) → IsDeadlock v threads
+    → (askers : List (Asker first deeds)) × (threads_of askers ≡ threads) × AllAtRequest askers v
 
 -- and in whatever errands led there, from whichever moments without a lock, each asks for what the
 -- next one has, in a round, and the errands alone can be gone together
 abbrev pub HangingErrandsMeet : Type 0
 HangingErrandsMeet =
     (start : Start) (first deeds v : List Deed) (askers : List (Asker first deeds))
-    → ((t l : ℕ) → shares t l first ≡ 0) → AreApart askers
-    → IsReordering start (v ++ first) (deeds ++ first)
-    → IsDeadlock (v ++ first) (threads_of askers) → AllAtRequest askers (v ++ first)
+    → ((t l : ℕ) → shares t l first ≡ 0) → AreApart askers → IsReordering start v (deeds ++ first)
+    → IsDeadlock v (threads_of askers) → AllAtRequest askers v
     → IsRound askers × Meet start.sizes.seats askers
+
+-- so where nobody gets a lock in the first part of a settled run, a reordering reaches a deadlock of
+-- these threads exactly where they have errands that ask in a round and can be gone together
+abbrev pub ErrandsDecide : Type 0
+ErrandsDecide =
+    (start : Start) (files : List (List ℕ)) (first deeds : List Deed) (threads : List ℕ)
+    → IsSettled start files first deeds → list_any gets first ≡ false → AreDistinct threads
+    → ((v : List Deed) × IsReordering start v (deeds ++ first) × IsDeadlock v threads)
+    ↔ ((askers : List (Asker first deeds)) × (threads_of askers ≡ threads) × IsRound askers
+    × Meet start.sizes.seats askers)
 
 -- two threads that have one lock at their requests, and not both as readers, are never there at one
 -- moment

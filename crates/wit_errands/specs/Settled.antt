@@ -63,6 +63,12 @@ pub record IsSettled (start : Start) (files : List (List ℕ)) (first deeds : Li
       ≤ start.sizes.chunks
   pub log : most_of_all start.sizes.seats entries_at (log_of (deeds ++ first)) ≤ start.sizes.log
 
+-- whether a deed gets a lock
+abbrev pub gets : Deed → Bool
+gets (Take t l mode) = true
+gets (TryTake t l mode) = true
+gets _ = false
+
 -- ---- what the locks alone admit
 
 -- whether a deed may come after these, as far as the locks go that others have

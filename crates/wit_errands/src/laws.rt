@@ -3,6 +3,7 @@
 
 ghost use Rattle.wit_errands.specs.Examples.{GatedHasNone, GatedReverses, InTurnReverses};
 ghost use Rattle.wit_errands.specs.Laws.{
+  ErrandsDecide,
   GatedRunsNeverHang,
   GatesKeepApart,
   HangingErrandsMeet,
@@ -33,12 +34,20 @@ pub fn law_meeting_errands_hang()
     ensures { MeetingErrandsHang }
 {}
 
-/// And only such errands do. Threads that a reordering leads to a deadlock are at the ends of errands;
-/// and in whatever errands led there, each asks for what the next one has, and they can be gone
-/// together. So where no errands meet in a round, no reordering hangs.
+/// And only such errands do. Threads that a reordering leads to a deadlock are at the ends of errands,
+/// where nobody gets a lock in the first part. And in whatever errands led there, each asks for what
+/// the next one has, and they can be gone together.
 pub fn law_hanging_errands_meet()
     ensures ask { HangingThreadsAsk }
     ensures meet { HangingErrandsMeet }
+{}
+
+/// Together: a reordering of a run hangs exactly where threads have errands that ask in a round and
+/// can be gone together, where the run is settled and nobody gets a lock in its first part, as where
+/// the locks are made in it. So to know which threads can hang it is enough to look at the errands
+/// of the run, few at a time, and at nothing else.
+pub fn law_errands_decide()
+    ensures { ErrandsDecide }
 {}
 
 /// A gate keeps a reversal from hanging: two threads that have one lock at their requests, and not
