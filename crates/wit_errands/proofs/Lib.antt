@@ -1,6 +1,7 @@
 pub mod Answers
 pub mod Bars
 pub mod Calm
+pub mod Copied
 pub mod Decided
 pub mod Ends
 pub mod Found

@@ -87,7 +87,7 @@ kept-mode t l (Free u m) old = refl
 kept-mode t l (RawUp u m) old = refl
 kept-mode t l (RawDown u m) old = refl
 
-mode-kept : (t l : ℕ) (o : List Deed) → raw_mode t l (map kept o) ≡ raw_mode t l o
+pub mode-kept : (t l : ℕ) (o : List Deed) → raw_mode t l (map kept o) ≡ raw_mode t l o
 mode-kept t l [] = refl
 mode-kept t l (d ∷ o) =
     kept-mode t l d (raw_mode t l (map kept o)) ∙ ap (λ m. mode_after t l d m) (mode-kept t l o)

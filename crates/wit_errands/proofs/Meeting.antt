@@ -26,7 +26,7 @@ use Rattle.wit_errands.proofs.Ends.{cancel, splits}
 use Rattle.wit_errands.proofs.Late.{late, own-outside, own-late, AllBegun, late-free}
 use Rattle.wit_errands.proofs.Waiting.{upto, mine-upto, IsDone, asks-then, has-there}
 
-same-asked : (p q : Request) → Asked p ≡ Asked q → p ≡ q
+pub same-asked : (p q : Request) → Asked p ≡ Asked q → p ≡ q
 same-asked p q is = (cc)
 
 module _ (first deeds v : List Deed) (nothing : (t l : ℕ) → shares t l first ≡ 0) where
@@ -64,7 +64,7 @@ module _ (first deeds v : List Deed) (nothing : (t l : ℕ) → shares t l first
     ask-on c others b there.0 there.1 theirs queue.1,
   )
 
-  round : (askers : List (Asker first deeds)) → AllAtRequest askers v
+  pub round : (askers : List (Asker first deeds)) → AllAtRequest askers v
       → IsDeadlock v (threads_of askers) → IsRound askers
   round [] there circle = circle
   round (a ∷ others) there circle = ask-on a others a there.0 there.1 there.0 circle
@@ -186,7 +186,7 @@ module _ (first deeds v : List Deed) (nothing : (t l : ℕ) → shares t l first
         ∙ (looks-upto t h ∙ map-append kept e (earlier t h)))))
         ∙ ap (λ x. map kept x) (sym h.as_told))
 
-    meet : (start : Start) (files : List (List ℕ)) → IsWorld start files v
+    pub meet : (start : Start) (files : List (List ℕ)) → IsWorld start files v
         → Meet start.sizes.seats askers
     meet start files world = record {
       together = late (is_asker askers) (past_of askers) v;

@@ -7,9 +7,11 @@ use Rattle.wit_model.specs.Rules.State.{Start}
 use Rattle.wit_model.specs.Rules.Verdict.{is_exclusive}
 use Rattle.wit_model.specs.World.Deeds.{Deed, own, shares, raw_mode}
 use Rattle.wit_model.specs.World.Stages.{Asked, stage}
+use Rattle.wit_model.specs.World.Steps.{IsWorld}
 use Rattle.wit_model.specs.World.Waiting.{IsDeadlock}
 use Rattle.wit_model.specs.World.Reordering.{kept, IsReordering}
 use Rattle.wit_errands.specs.Settled.{IsSettled, gets, are_free}
+use Rattle.wit_errands.specs.Copies.{Copier, copying, AllCopied, IsCopiedRound, MeetCopied}
 use Rattle.wit_errands.specs.Errands.{Errand, AsksFor, keeps, is_in_way, IsAtRequest}
 use Rattle.wit_errands.specs.Errands.{Asker, IsRound}
 use Rattle.wit_errands.specs.Errands.{AreApart, AreDistinct, threads_of, Meet, AllAtRequest}
@@ -95,3 +97,12 @@ abbrev pub GatedRunsNeverHang : Type 0
 GatedRunsNeverHang =
     (start : Start) (v w : List Deed) (threads : List ℕ) (gate : ℕ) → IsGated gate w
     → IsReordering start v w → IsDeadlock v threads → ⊥
+
+-- threads of whatever world that are in a deadlock, each of which did what an errand of the run was,
+-- since it had nothing, do copies of errands that ask in a round and can be gone together
+abbrev pub HangingCopiesMeet : Type 0
+HangingCopiesMeet =
+    (start : Start) (files : List (List ℕ)) (first deeds v : List Deed)
+    (copiers : List (Copier first deeds))
+    → IsWorld start files v → IsDeadlock v (copying copiers) → AllCopied v copiers
+    → IsCopiedRound copiers × MeetCopied start.sizes.seats copiers

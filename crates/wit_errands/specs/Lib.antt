@@ -1,3 +1,4 @@
+pub mod Copies
 pub mod Errands
 pub mod Examples
 pub mod Laws

@@ -6,6 +6,7 @@ ghost use Rattle.wit_errands.specs.Laws.{
   ErrandsDecide,
   GatedRunsNeverHang,
   GatesKeepApart,
+  HangingCopiesMeet,
   HangingErrandsMeet,
   HangingThreadsAsk,
   LocksDecide,
@@ -48,6 +49,14 @@ pub fn law_hanging_errands_meet()
 /// of the run, few at a time, and at nothing else.
 pub fn law_errands_decide()
     ensures { ErrandsDecide }
+{}
+
+/// However many threads there are, and in whatever world: where each thread of a deadlock did, since
+/// it had nothing, what an errand of this run was, copies of these errands ask in a round and can be
+/// gone together. So where no copies of the run's errands do, no number of threads hangs that do
+/// nothing else. A copy may be of the thread's own errand, and two threads may copy the same one.
+pub fn law_hanging_copies_meet()
+    ensures { HangingCopiesMeet }
 {}
 
 /// A gate keeps a reversal from hanging: two threads that have one lock at their requests, and not
