@@ -1,12 +1,11 @@
 -- Threads in a deadlock that did copies of errands did errands of their own: these meet, so the copies
 -- do.
-use Rattle.std.proofs.Common.{◌≡◌, ℕ, ◌<◌, ◌≤◌, ◌+◌, ◌-◌, Bool, true, false, ◌&&◌, ◌||◌, cond, eqb}
+use Rattle.std.proofs.Common.{◌≡◌, ℕ, ◌+◌, ◌-◌, true, false, ◌&&◌, ◌||◌, cond, eqb}
 use Rattle.std.proofs.Common.{nat_lt, List, [], ◌∷◌, ◌++◌, map, length, refl, ap, ap₂, sym, ◌∙◌}
-use Rattle.std.proofs.Common.{subst, inl, inr, arith, append-nil, append_assoc, length-append}
+use Rattle.std.proofs.Common.{subst, inl, inr, arith, append-nil, length-append}
 use Rattle.std.specs.List.{list_all}
-use Rattle.std.proofs.lemmas.Bool.{cases_Bool, and_parts, eq-eqb, eqb-true}
+use Rattle.std.proofs.lemmas.Bool.{cases_Bool, and_parts, eq-eqb}
 use Rattle.std.proofs.lemmas.List.{map-append, length-map}
-use Rattle.wit_model.specs.declared.locks.Mode.{Mode}
 use Rattle.wit_model.specs.declared.calls.Request.{Request}
 use Rattle.wit_model.specs.declared.calls.Call.TheVariants.{Check}
 use Rattle.wit_model.specs.declared.calls.Entry.{Entry}
@@ -23,7 +22,7 @@ use Rattle.wit_model.specs.World.Waiting.{IsWaiting, IsDeadlock}
 use Rattle.wit_model.specs.World.Reordering.{kept}
 use Rattle.wit_model.proofs.World.Own.{kept-check, shares-kept, num-own}
 use Rattle.wit_errands.specs.Errands.{Errand, Asker, AsksFor, AskOn, IsRound, errand_of, threads_of}
-use Rattle.wit_errands.specs.Errands.{keeps, Meet, AllAtRequest, AsksOther}
+use Rattle.wit_errands.specs.Errands.{keeps, AllAtRequest}
 use Rattle.wit_errands.specs.Copies.{done_by, Copier, copying, copied, copied_by, HasCopied}
 use Rattle.wit_errands.specs.Copies.{AllCopied, CopyOn, IsCopiedRound, MeetCopied}
 use Rattle.wit_errands.proofs.Looks.{mode-kept}
@@ -32,6 +31,7 @@ use Rattle.wit_errands.proofs.Ends.{cancel, splits}
 use Rattle.wit_errands.proofs.Waiting.{mine-parts, IsDone, check-num}
 use Rattle.wit_errands.proofs.Meeting.{same-asked, round, meet}
 use Rattle.wit_model.specs.declared.locks.Mode.TheVariants.{Shared, Exclusive}
+use Rattle.wit_errands.proofs.Queues.{first-waits}
 
 -- ---- a copier has what its model had
 
@@ -217,17 +217,12 @@ module _ (first deeds v : List Deed) where
   AllOwn [] = Unit {0}
   AllOwn (c ∷ others) = HasOwn c × AllOwn others
 
-  next-waits : (t : ℕ) (ts : List ℕ) (last : ℕ) → IsQueue (IsWaiting v) t ts last
-      → (u : ℕ) × IsWaiting v t u
-  next-waits t [] last queue = (last, queue)
-  next-waits t (c ∷ ts) last queue = (c, queue.0)
-
   line : (t : ℕ) (others : List (Copier first deeds)) (last : ℕ)
       → IsQueue (IsWaiting v) t (copying others) last → AllCopied v others → AllOwn others
   unfolding AllOwn
   line t [] last queue all = tt
   line t (c ∷ others) last queue all =
-      let next = next-waits c.thread (copying others) last queue.1 in
+      let next = first-waits (IsWaiting v) c.thread (copying others) last queue.1 in
       (own-errand c next.0 next.1 all.0, line c.thread others last queue.1 all.1)
 
   all-own : (copiers : List (Copier first deeds)) → IsDeadlock v (copying copiers)
@@ -235,7 +230,7 @@ module _ (first deeds v : List Deed) where
   unfolding AllOwn
   all-own [] circle all = tt
   all-own (c ∷ others) circle all =
-      let next = next-waits c.thread (copying others) c.thread circle in
+      let next = first-waits (IsWaiting v) c.thread (copying others) c.thread circle in
       (own-errand c next.0 next.1 all.0, line c.thread others c.thread circle all.1)
 
   asker : (c : Copier first deeds) → HasOwn c → Asker [] v

@@ -7,6 +7,7 @@ use Rattle.std.proofs.Common.{sym}
 use Rattle.wit_model.specs.World.Deeds.{Deed}
 use Rattle.wit_model.specs.World.Reordering.{kept}
 use Rattle.std.proofs.lemmas.List.{length-map}
+use Rattle.wit_errands.proofs.Moments.{none-longer}
 
 -- of two parts into which a list falls in two ways
 pub data Overlap (d f a s : List Deed) : Type 0 where
@@ -47,11 +48,6 @@ pub record Ends (d : Deed) (o x : List Deed) : Type 0 where
   pub whole : x ≡ after ++ (last ∷ before)
   pub looks : kept last ≡ kept d
   pub same : map kept before ≡ map kept o
-
-none-longer : (later : List Deed) (x : Deed) (xs : List Deed)
-    → ◌≡◌ {A = List Deed} [] (later ++ x ∷ xs) → ⊥
-none-longer [] x xs is = (cc)
-none-longer (y ∷ later) x xs is = (cc)
 
 pub ends : (d : Deed) (o x later : List Deed) → map kept x ≡ later ++ (kept d ∷ map kept o) → Ends d o x
 ends d o [] later same = absurd (none-longer later (kept d) (map kept o) same)

@@ -25,12 +25,14 @@ use Rattle.wit_errands.specs.Errands.{Errand, Asker}
 use Rattle.wit_errands.specs.Errands.{threads_of}
 use Rattle.wit_errands.specs.Errands.{AllAtRequest}
 use Rattle.wit_errands.proofs.Looks.{Alike, held-alike}
-use Rattle.wit_errands.proofs.Threads.{own-all, own-mine-all, own-append}
+use Rattle.wit_errands.proofs.Threads.{own-all, own-mine-all}
+use Rattle.wit_errands.proofs.Looks.{own-append}
 use Rattle.wit_errands.proofs.Ends.{ends}
 use Rattle.wit_errands.proofs.Ends.{Overlap, Longer, Shorter, overlap}
 use Rattle.wit_errands.proofs.Waiting.{IsDone, check-num}
 use Rattle.wit_errands.specs.Settled.{gets}
 use Rattle.wit_errands.proofs.Silent.{silent-none, silent-own, silent-later}
+use Rattle.wit_errands.proofs.Queues.{first-waits, last-waited_for}
 
 -- ---- the errands
 
@@ -127,16 +129,6 @@ module _ (first deeds v : List Deed) (quiet : list_any gets first ≡ false)
 
   -- ---- a queue of them
 
-  next-waits : (t : ℕ) (ts : List ℕ) (last : ℕ) → IsQueue (IsWaiting v) t ts last
-      → (u : ℕ) × IsWaiting v t u
-  next-waits t [] last queue = (last, queue)
-  next-waits t (c ∷ ts) last queue = (c, queue.0)
-
-  last-waits : (t : ℕ) (ts : List ℕ) (last : ℕ) → IsQueue (IsWaiting v) t ts last
-      → (p : ℕ) × IsWaiting v p last
-  last-waits t [] last queue = (t, queue)
-  last-waits t (c ∷ ts) last queue = last-waits c ts last queue.1
-
   record Line (ts : List ℕ) : Type 0 where
     others : List (Asker first deeds)
     threads : threads_of others ≡ ts
@@ -146,7 +138,7 @@ module _ (first deeds v : List Deed) (quiet : list_any gets first ≡ false)
   unfolding asker
   line t [] last queue = record { others = []; threads = refl; there = tt }
   line t (c ∷ ts) last queue =
-      let next = next-waits c ts last queue.1 in
+      let next = first-waits (IsWaiting v) c ts last queue.1 in
       let h = find c next.0 next.1 queue.0.request.lock.0 queue.0.taken in
       let rest = line c ts last queue.1 in
       record {
@@ -161,8 +153,8 @@ module _ (first deeds v : List Deed) (quiet : list_any gets first ≡ false)
   unfolding asker
   hanging-found [] circle = absurd circle
   hanging-found (t ∷ ts) circle =
-      let next = next-waits t ts t circle in
-      let last = last-waits t ts t circle in
+      let next = first-waits (IsWaiting v) t ts t circle in
+      let last = last-waited_for (IsWaiting v) t ts t circle in
       let f = find t next.0 next.1 last.1.request.lock.0 last.1.taken in
       let rest = line t ts t circle in (
         asker t f ∷ rest.others,

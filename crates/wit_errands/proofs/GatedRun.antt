@@ -25,7 +25,7 @@ use Rattle.wit_errands.specs.Laws.{IsGated}
 use Rattle.wit_errands.specs.Errands.{Errand}
 use Rattle.wit_errands.specs.Examples.{three_made, then_gated, gated, GatedReverses, GatedHasNone}
 use Rattle.wit_errands.proofs.GatedRuns.{never-hangs}
-use Rattle.wit_errands.proofs.Threads.{own-append}
+use Rattle.wit_errands.proofs.Looks.{own-append}
 use Rattle.wit_errands.specs.Settled.{gets}
 use Rattle.wit_errands.proofs.Silent.{silent-none}
 

@@ -2,7 +2,6 @@
 use Rattle.std.proofs.Common.{◌≡◌, ℕ, ◌<◌, true, List, [], ◌∷◌}
 use Rattle.std.proofs.Common.{refl, ap, sym, ◌∙◌, subst}
 use Rattle.std.proofs.lemmas.Bool.{true≢false}
-use Rattle.wit_model.specs.Rules.Circles.{IsQueue}
 use Rattle.wit_model.specs.Rules.State.{Start}
 use Rattle.wit_model.specs.Rules.Verdict.{is_exclusive}
 use Rattle.wit_model.specs.World.Deeds.{Deed}
@@ -13,6 +12,7 @@ use Rattle.wit_model.proofs.World.Exclusion.{exclusive_alone}
 use Rattle.wit_errands.specs.Laws.{IsGated}
 use Rattle.wit_errands.proofs.Looks.{shares-alike, mode-alike, stage-alike}
 use Rattle.wit_errands.proofs.Moments.{moment}
+use Rattle.wit_errands.proofs.Queues.{first-waits, last-waited_for}
 
 module _ (start : Start) (v w : List Deed) (gate : ℕ) (gated : IsGated gate w)
     (reordered : IsReordering start v w) where
@@ -38,20 +38,10 @@ module _ (start : Start) (v w : List Deed) (gate : ℕ) (gated : IsGated gate w)
       ∙ exclusive_alone start reordered.files v t u gate reordered.world two.another mine.0
       theirs.0)
 
-  first-waits : (t : ℕ) (ts : List ℕ) (last : ℕ) → IsQueue (IsWaiting v) t ts last
-      → (u : ℕ) × IsWaiting v t u
-  first-waits t [] last queue = (last, queue)
-  first-waits t (c ∷ ts) last queue = (c, queue.0)
-
-  last-waits : (t : ℕ) (ts : List ℕ) (last : ℕ) → IsQueue (IsWaiting v) t ts last
-      → (p : ℕ) × IsWaiting v p last
-  last-waits t [] last queue = (t, queue)
-  last-waits t (c ∷ ts) last queue = last-waits c ts last queue.1
-
   pub never-hangs : (threads : List ℕ) → IsDeadlock v threads → ⊥
   never-hangs [] circle = circle
   never-hangs (t ∷ []) circle = circle.another refl
   never-hangs (t ∷ u ∷ ts) circle =
-      let next = first-waits u ts t circle.1 in
-      let last = last-waits u ts t circle.1 in
+      let next = first-waits (IsWaiting v) u ts t circle.1 in
+      let last = last-waited_for (IsWaiting v) u ts t circle.1 in
       two-gates last.0 t u next.0 last.1 circle.0 next.1

@@ -16,6 +16,7 @@ use Rattle.wit_errands.specs.Settled.{is_free, are_free}
 use Rattle.wit_errands.specs.Errands.{is_in_way}
 use Rattle.wit_errands.proofs.Having.{HasSame, has-own, has-over, has-then, has-back}
 use Rattle.wit_errands.proofs.Bars.{step-free, in_way-same, none-in_way, not-in_way}
+use Rattle.wit_errands.proofs.Moments.{none-longer}
 
 module _ (some : ℕ → Bool) (past : ℕ → ℕ) where
   is_late : Deed → List Deed → Bool
@@ -91,15 +92,12 @@ module _ (some : ℕ → Bool) (past : ℕ → ℕ) where
             late-other t d v there ∙ none-yet t v (omega (arith, same, short))
       ]
 
-  none-longer : (x : Deed) (xs ys : List Deed) → ◌≡◌ {A = List Deed} [] (x ∷ xs ++ ys) → ⊥
-  none-longer x xs ys is = (cc)
-
   -- and the others aren't
   pub own-late : (t : ℕ) (v x y : List Deed) → some t ≡ true → own t v ≡ x ++ y → length y ≡ past t
       → own t (late v) ≡ x
   own-late t v [] y is whole long =
       let same = ap (λ o. length o) whole in none-yet t v (omega (arith, same, long))
-  own-late t [] (a ∷ x) y is whole long = absurd (none-longer a x y whole)
+  own-late t [] (a ∷ x) y is whole long = absurd (none-longer [] a (x ++ y) whole)
   own-late t (d ∷ v) (a ∷ x) y is whole long =
       elim (cases_Bool (eqb (thread_of d) t)) [
         | inl here ↦

@@ -15,6 +15,7 @@ pub mod Looks
 pub mod Meeting
 pub mod Moments
 pub mod Passed
+pub mod Queues
 pub mod Redone
 pub mod Replayed
 pub mod Reversed

@@ -24,7 +24,7 @@ use Rattle.wit_model.proofs.World.Moments.{own-logged}
 abbrev pub Alike : ℕ → List Deed → List Deed → Type 0
 Alike t v w = map kept (own t v) ≡ map kept (own t w)
 
-own-append : (t : ℕ) (v first : List Deed) → own t (v ++ first) ≡ own t v ++ own t first
+pub own-append : (t : ℕ) (v first : List Deed) → own t (v ++ first) ≡ own t v ++ own t first
 own-append t v first = filter-append (λ d. eqb (thread_of d) t) v first
 
 pub looks-append : (t : ℕ) (v first : List Deed)

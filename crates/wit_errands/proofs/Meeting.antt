@@ -21,7 +21,8 @@ use Rattle.wit_model.proofs.World.Own.{shares-own}
 use Rattle.wit_errands.specs.Errands.{Errand, Asker, AsksOther, AskOn, IsRound, is_asker}
 use Rattle.wit_errands.specs.Errands.{errand_of, threads_of, keeps, Meet, AllAtRequest}
 use Rattle.wit_errands.proofs.Looks.{shares-over}
-use Rattle.wit_errands.proofs.Threads.{own-all, own-append}
+use Rattle.wit_errands.proofs.Threads.{own-all}
+use Rattle.wit_errands.proofs.Looks.{own-append}
 use Rattle.wit_errands.proofs.Ends.{cancel, splits}
 use Rattle.wit_errands.proofs.Late.{late, own-outside, own-late, AllBegun, late-free}
 use Rattle.wit_errands.proofs.Waiting.{upto, mine-upto, IsDone, asks-then, has-there}

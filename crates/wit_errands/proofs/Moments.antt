@@ -23,7 +23,7 @@ pub record IsNext (t : ℕ) (d : Deed) (o w : List Deed) : Type 0 where
   pub looks : kept next ≡ kept d
   pub same : map kept (own t now) ≡ map kept o
 
-none-longer : (later : List Deed) (x : Deed) (xs : List Deed)
+pub none-longer : (later : List Deed) (x : Deed) (xs : List Deed)
     → ◌≡◌ {A = List Deed} [] (later ++ x ∷ xs) → ⊥
 none-longer [] x xs is = (cc)
 none-longer (y ∷ later) x xs is = (cc)

@@ -17,7 +17,8 @@ use Rattle.wit_errands.specs.Errands.{Errand, AsksFor, is_in_way}
 use Rattle.wit_errands.proofs.Looks.{alike-whole}
 use Rattle.wit_errands.proofs.Replayed.{locks-decide}
 use Rattle.wit_errands.proofs.Having.{HasSame, has-own, has-then}
-use Rattle.wit_errands.proofs.Threads.{Mine, own-all, own-none, own-append, looks-own}
+use Rattle.wit_errands.proofs.Threads.{Mine, own-all, own-none, looks-own}
+use Rattle.wit_errands.proofs.Looks.{own-append}
 use Rattle.wit_errands.proofs.Bars.{in_way-same, none-in_way, all-none, any-same}
 use Rattle.wit_errands.proofs.Segments.{IsPart, part-free}
 use Rattle.wit_errands.proofs.Waiting.{upto, whole-upto, mine-upto, mine-parts, has-upto, IsDone, waits}

@@ -19,7 +19,8 @@ use Rattle.wit_errands.proofs.Looks.{alike-whole, shares-over}
 use Rattle.std.proofs.lemmas.List.{map-append}
 use Rattle.wit_errands.proofs.Replayed.{locks-decide}
 use Rattle.wit_errands.proofs.Having.{has-over, free-same}
-use Rattle.wit_errands.proofs.Threads.{Mine, own-all, own-none, own-append, looks-own}
+use Rattle.wit_errands.proofs.Threads.{Mine, own-all, own-none, looks-own}
+use Rattle.wit_errands.proofs.Looks.{own-append}
 use Rattle.wit_errands.proofs.Bars.{none-in_way, all-none}
 use Rattle.wit_errands.proofs.Segments.{IsPart, part-free}
 use Rattle.wit_errands.proofs.Waiting.{upto, mine-upto, mine-parts, begins-as, IsDone, waits}

@@ -17,7 +17,8 @@ use Rattle.wit_errands.proofs.Moments.{next-deed}
 use Rattle.wit_errands.proofs.Redone.{world-at}
 use Rattle.wit_model.specs.Rules.State.{Start}
 use Rattle.wit_errands.proofs.Having.{HasSame, has-alike, has-over, has-then, has-back, kept-free}
-use Rattle.wit_errands.proofs.Threads.{Mine, own-all, own-none, own-append}
+use Rattle.wit_errands.proofs.Threads.{Mine, own-all, own-none}
+use Rattle.wit_errands.proofs.Looks.{own-append}
 use Rattle.wit_errands.proofs.Bars.{step-free, in_way-same, kept-way}
 
 -- ---- what one thread does, over what was done before

@@ -1,9 +1,8 @@
 -- The deeds of one thread.
-use Rattle.std.proofs.Common.{◌≡◌, ℕ, true, eqb, List, [], ◌∷◌, ◌++◌, map, refl, ap, sym, ◌∙◌}
+use Rattle.std.proofs.Common.{◌≡◌, ℕ, true, eqb, List, [], ◌∷◌, map, refl, ap, sym, ◌∙◌}
 use Rattle.std.proofs.Common.{inl, inr}
 use Rattle.std.specs.List.{list_all}
 use Rattle.std.proofs.lemmas.Bool.{cases_Bool, and_parts, and_from, eqb-true, ne_eqb}
-use Rattle.std.proofs.lemmas.List.Elements.{filter-append}
 use Rattle.wit_model.specs.World.Deeds.{Deed, Logged, PassedOver, Take, TryTake, Free, RawUp}
 use Rattle.wit_model.specs.World.Deeds.{RawDown, thread_of, own}
 use Rattle.wit_model.specs.World.Reordering.{kept}
@@ -36,9 +35,6 @@ own-mine-all t (d ∷ w) =
       | inr is ↦ ap (λ o. list_all (λ x. eqb (thread_of x) t) o) (own-other t d w is)
           ∙ own-mine-all t w
     ]
-
-pub own-append : (t : ℕ) (v w : List Deed) → own t (v ++ w) ≡ own t v ++ own t w
-own-append t v w = filter-append (λ d. eqb (thread_of d) t) v w
 
 -- ---- as they look
 

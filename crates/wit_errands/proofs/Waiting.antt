@@ -23,7 +23,8 @@ use Rattle.wit_errands.proofs.Looks.{Alike, held-alike, stage-alike}
 use Rattle.wit_errands.proofs.Looks.{shares-over, mode-over}
 use Rattle.std.proofs.lemmas.List.Sums.{sum_by-cons}
 use Rattle.wit_errands.proofs.Having.{HasSame, has-alike, has-over, has-then}
-use Rattle.wit_errands.proofs.Threads.{Mine, own-all, own-mine-all, own-append}
+use Rattle.wit_errands.proofs.Threads.{Mine, own-all, own-mine-all}
+use Rattle.wit_errands.proofs.Looks.{own-append}
 
 -- ---- an errand
 

@@ -1,5 +1,5 @@
 -- Copies of errands: threads that do what others did in a run, however many.
-use Rattle.std.specs.Prelude.{ℕ, ◌≡◌, true, false, ◌==◌, List, [], ◌∷◌, ◌++◌, map}
+use Rattle.std.specs.Prelude.{ℕ, ◌≡◌, true, ◌==◌, List, [], ◌∷◌, ◌++◌, map}
 use Rattle.std.specs.Prelude.{if◌then◌else◌}
 use Rattle.wit_model.specs.World.Deeds.{Deed, Logged, PassedOver, Take, TryTake, Free, RawUp}
 use Rattle.wit_model.specs.World.Deeds.{RawDown, own, shares}
