@@ -78,9 +78,8 @@ pub fn law_gated_reversal()
     ensures none { GatedHasNone }
 {}
 
-/// The law of reversals isn't empty: there is a run of two threads, the one after the other, that
-/// meets its premises. The reordering is that in which each has its first lock as it asks for the
-/// other's.
+/// The law of reversals isn't empty: a run of two threads, the one after the other, meets its
+/// premises. It is the run of `law_circle_reached` of `wit_model`, which shows the reordering.
 pub fn law_reversal_found()
     ensures { InTurnReverses }
 {}
