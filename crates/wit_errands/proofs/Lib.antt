@@ -1,8 +1,10 @@
 pub mod Answers
+pub mod BarredRun
 pub mod Bars
 pub mod Calm
 pub mod Copied
 pub mod Decided
+pub mod EachMoment
 pub mod Ends
 pub mod Found
 pub mod Gated
@@ -26,5 +28,6 @@ pub mod Segments
 pub mod Silent
 pub mod Sums
 pub mod Threads
+pub mod Tries
 pub mod Verdicts
 pub mod Waiting

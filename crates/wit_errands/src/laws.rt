@@ -1,7 +1,13 @@
 //! Laws of errands: which reorderings of a run there are, and where one of them hangs. Each function
 //! is a theorem, and does nothing.
 
-ghost use Rattle.wit_errands.specs.Examples.{GatedHasNone, GatedReverses, InTurnReverses};
+ghost use Rattle.wit_errands.specs.Examples.{
+  BarredHasNone,
+  BarredReverses,
+  GatedHasNone,
+  GatedReverses,
+  InTurnReverses,
+};
 ghost use Rattle.wit_errands.specs.Laws.{
   ErrandsDecide,
   GatedRunsNeverHang,
@@ -76,6 +82,13 @@ pub fn law_gated_runs()
 pub fn law_gated_reversal()
     ensures report { GatedReverses }
     ensures none { GatedHasNone }
+{}
+
+/// Nor does it where there is no gate: here each thread needs on its way what the other one has at its
+/// request, and gets it by a try. So the two are never both there, and no reordering hangs.
+pub fn law_barred_reversal()
+    ensures report { BarredReverses }
+    ensures none { BarredHasNone }
 {}
 
 /// The law of reversals isn't empty: a run of two threads, the one after the other, meets its
