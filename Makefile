@@ -1,6 +1,7 @@
 # make                       proves and builds the program, 25 minutes on four processors, and libwitness, three more; and
 #                            builds the recorder
 # make check                 the gate: every proof and every test, about 70 minutes on four processors
+# make test-recorder NAME=.. the recorder's tests of these names, else all, in 15 minutes; `make` comes first
 # make install PREFIX=..     puts all under a folder, from where it works without this one
 # make dist                  makes a tar of that, which needs neither Rattle nor a compiler
 # The last two prove and build the program first, where that wasn't done, and take libwitness where it stands built; else a
@@ -17,10 +18,13 @@ check:
 	@echo "the gate: every proof and every test, from nothing: about 70 minutes on four processors, 10 GB of disk"
 	@.ci/run
 
+test-recorder:
+	@recorder/test/run $(NAME)
+
 install:
 	@tools/install "$(DESTDIR)$(PREFIX)"
 
 dist:
 	@tools/pack "$(VERSION)"
 
-.PHONY: all check install dist
+.PHONY: all check test-recorder install dist
