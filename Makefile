@@ -1,6 +1,6 @@
 # make                       proves and builds the program, 25 minutes on four processors, and libwitness, three more; and
 #                            builds the recorder
-# make check                 the gate: every proof and every test, about 70 minutes on four processors
+# make check                 the gate: every proof and every test, two hours and a quarter on four processors
 # make test-recorder NAME=.. the recorder's tests of these names, else all, in 15 minutes; `make` comes first
 # make install PREFIX=..     puts all under a folder, from where it works without this one
 # make dist                  makes a tar of that, which needs neither Rattle nor a compiler
@@ -15,7 +15,7 @@ all:
 	@[ ! -x recorder/build ] || recorder/build >/dev/null
 
 check:
-	@echo "the gate: every proof and every test, from nothing: about 70 minutes on four processors, 10 GB of disk"
+	@echo "the gate: every proof and every test, from nothing: two hours and a quarter on four processors, 10 GB of disk"
 	@.ci/run
 
 test-recorder:
