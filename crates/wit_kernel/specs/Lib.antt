@@ -1,1 +1,2 @@
+pub mod Acquisitions
 pub mod Outputs
