@@ -1,3 +1,4 @@
 pub mod Keys
-pub mod Kept
+pub mod Lines
 pub mod Pairs
+pub mod Same

@@ -34,7 +34,7 @@ place_of fields =
     (quoted_behind (codes "bin = \"") fields)) (word_behind (codes "ip = ") fields))
     (Some (codes "?"))
 
-unfoldable pub deed_done : List ℕ → Option MutexDeed
+abbrev pub deed_done : List ℕ → Option MutexDeed
 deed_done call =
     if bytes_eq call (codes "lock_acq") then Some Gets
     else if bytes_eq call (codes "trylock") then Some Tries
@@ -65,6 +65,8 @@ abbrev pub mutex_named : List ℕ → Option Telling
 mutex_named named =
     option_and_then (mutex_fields (onward 58 named)) (deed_of (before 58 named) (onward 58 named))
 
-unfoldable pub mutex_told : List ℕ → Option Telling
-mutex_told line =
-    option_and_then mutex_named (behind (codes "lttng_ust_pthread:pthread_mutex_") line)
+unfoldable pub named_of : List ℕ → Option (List ℕ)
+named_of line = behind (codes "lttng_ust_pthread:pthread_mutex_") line
+
+abbrev pub mutex_told : List ℕ → Option Telling
+mutex_told line = option_and_then mutex_named (named_of line)

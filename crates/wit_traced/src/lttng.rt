@@ -5,7 +5,7 @@
 ghost use Rattle.std.specs.Prelude.{◌≡◌};
 ghost use Rattle.std.specs.Option.{option_copied, option_map};
 ghost use Rattle.wit_traced.specs.Lttng.{deed_by_status, deed_done, deed_of, mutex_fields, mutex_named};
-ghost use Rattle.wit_traced.specs.Lttng.{mutex_told, place_of, quoted_behind, unless_empty, word_behind};
+ghost use Rattle.wit_traced.specs.Lttng.{mutex_told, named_of, place_of, quoted_behind, unless_empty, word_behind};
 ghost use Rattle.wit_traced.specs.Tellings.{telling};
 
 use crate::contexts::{Context, Masked, Preemption};
@@ -14,11 +14,18 @@ use crate::numbers::{decimal, hexadecimal};
 use crate::pieces::{before, behind};
 
 /// What a line tells: nothing where it is none of these, or a call failed.
-#[tactic(auto, unfolding(crate::specs::Lttng::mutex_told))]
 pub fn mutex_told(bytes: &[u8]) -> Option<Told<'_>>
     ensures { option_map telling result ≡ mutex_told bytes.now }
 {
-    mutex_named(behind(b"lttng_ust_pthread:pthread_mutex_", bytes)?)
+    mutex_named(named_of(bytes)?)
+}
+
+// What stands behind the name of the wrapper.
+#[tactic(auto, unfolding(crate::specs::Lttng::named_of))]
+fn named_of(bytes: &[u8]) -> Option<&[u8]>
+    ensures { option_copied result ≡ named_of bytes.now }
+{
+    behind(b"lttng_ust_pthread:pthread_mutex_", bytes)
 }
 
 fn mutex_named(named: &[u8]) -> Option<Told<'_>>
@@ -62,15 +69,17 @@ fn deed_by_status(call: &[u8], status: &[u8]) -> Option<MutexDeed>
     }
 }
 
-#[tactic(auto, unfolding(crate::specs::Lttng::deed_done))]
 fn deed_done(call: &[u8]) -> Option<MutexDeed>
     ensures { result ≡ deed_done call.now }
 {
-    match call {
-        b"lock_acq" => Some(MutexDeed::Gets),
-        b"trylock" => Some(MutexDeed::Tries),
-        b"unlock" => Some(MutexDeed::Releases),
-        _ => None,
+    if call == b"lock_acq".as_slice() {
+        Some(MutexDeed::Gets)
+    } else if call == b"trylock".as_slice() {
+        Some(MutexDeed::Tries)
+    } else if call == b"unlock".as_slice() {
+        Some(MutexDeed::Releases)
+    } else {
+        None
     }
 }
 

@@ -1,4 +1,4 @@
-use Rattle.wit_gathered.proofs.Kept.{pairs-kept, pairs-known, pairs-stay}
+use Rattle.wit_gathered.proofs.Lines.{pairs-kept, pairs-known, pairs-stay}
 use Rattle.wit_gathered.proofs.laws.law_no_pair_is_lost.Goals as goal
 
 pub returns-clause-known : goal.returns-clause-known
