@@ -93,6 +93,7 @@ module _ (Q : Requested → Type 0)
       (λ is. waiting g t apart holds) (λ is. holds)
 
   acquiring : (g : Gathered) (t : Taken) → P g → P (Gathering.acquiring g t)
+  unfolding Gathering.acquiring
   acquiring g t holds =
       let h = Gathering.hold_of g.settings t in
       coming
@@ -111,7 +112,7 @@ module _ (Q : Requested → Type 0)
   acquiring-class : (g : Gathered) (context : Context) (masked : Masked) (a : Acquiring) → P g
       → P (Gathering.acquiring_class g context masked a)
   acquiring-class g context masked a holds =
-      let r = of_class g.known a (Gathering.is_interrupt context || Gathering.masks_all masked) in
+      let r = of_class g.known a (Gathering.is_early context masked) in
       acquiring
       (Gathering.noting_acquired (Gathering.with_place (record g { known = r.0 }) a.place) a.lock r.1)
       (Gathering.taken_class context masked a r.1 (number_in g.places a.place)) holds

@@ -209,7 +209,7 @@ abbrev pub holding : Gathered → Hold → Gathered
 holding g h = record g { held = with_newest g.held h }
 
 -- it is asked for, and held then, and interrupts may come
-abbrev pub acquiring : Gathered → Taken → Gathered
+unfoldable pub acquiring : Gathered → Taken → Gathered
 acquiring g t =
     let h = hold_of g.settings t in
     coming (holding (noting_held (asking_first g t) t.context h.step) h) t.context t.masked t.place
@@ -280,10 +280,14 @@ taken_class context masked a number place = record {
   parted = not (does_sleep a.kind);
 }
 
+-- nothing may sleep there, as far as a line tells
+abbrev pub is_early : Context → Masked → Bool
+is_early context masked = is_interrupt context || masks_all masked
+
 -- lockdep is told of an acquisition
 abbrev pub acquiring_class : Gathered → Context → Masked → Acquiring → Gathered
 acquiring_class g context masked a =
-    let r = of_class g.known a (is_interrupt context || masks_all masked) in
+    let r = of_class g.known a (is_early context masked) in
     acquiring (noting_acquired (with_place (record g { known = r.0 }) a.place) a.lock r.1)
     (taken_class context masked a r.1 (number_in g.places a.place))
 

@@ -170,13 +170,16 @@ class_of f = if f.has_readers then class.Readers else if f.spins then class.Mute
 abbrev pub readers_text : Bool → List ℕ
 readers_text apart = if apart then codes "(read)" else []
 
+abbrev pub mutex_named : List ℕ → LockClass × List ℕ
+mutex_named name = (class.Mutex, name)
+
 abbrev pub class_and_name : Bool → Option Named → LockClass × List ℕ
-class_and_name readers None = (class.Mutex, codes "?")
+class_and_name readers None = mutex_named (codes "?")
 class_and_name readers (Some e) =
     (class_of e.facts, e.name ++ readers_text (readers && e.facts.has_readers))
 
 abbrev pub type_named : Names → «Type» → LockClass × List ℕ
-type_named n kind.Hardirq = (class.Mutex, codes "<hardirq>")
-type_named n kind.Softirq = (class.Mutex, codes "<softirq>")
+type_named n kind.Hardirq = mutex_named (codes "<hardirq>")
+type_named n kind.Softirq = mutex_named (codes "<softirq>")
 type_named n (kind.Of t) = class_and_name false (slice_get n.named t)
 type_named n (kind.ReadersOf t) = class_and_name true (slice_get n.named t)

@@ -136,9 +136,12 @@ same_lock a b = nat_eq a.0 b.0 && beq a.1 b.1
 abbrev pub first_of : List ℕ → ℕ → ℕ
 first_of firsts n = unwrap_or (slice_get firsts n) n
 
+abbrev pub one_renamed : ℕ → ℕ → ℕ → ℕ
+one_renamed from to n = if nat_eq n from then to else n
+
 -- from then on two types are one: the first of either
 abbrev pub renamed : ℕ → ℕ → List ℕ → List ℕ
-renamed from to firsts = map (λ n. if nat_eq n from then to else n) firsts
+renamed from to firsts = map (one_renamed from to) firsts
 
 abbrev pub joined : ℕ → ℕ → List ℕ → List ℕ
 joined a b firsts =

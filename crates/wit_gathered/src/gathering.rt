@@ -8,7 +8,8 @@ ghost use Rattle.wit_traced.specs.Tellings.{telling};
 ghost use Rattle.wit_gathered.specs.Gathering.{acquiring, acquiring_class, acquiring_lock};
 ghost use Rattle.wit_gathered.specs.Gathering.{acquiring_mutex, acting, asking_first, asking_for};
 ghost use Rattle.wit_gathered.specs.Gathering.{asking_interrupt, coming, entering};
-ghost use Rattle.wit_gathered.specs.Gathering.{gathered, getting_mutex, has_it, is_hard};
+ghost use Rattle.wit_gathered.specs.Gathering.{gathered, getting_mutex, has_it, hold_of, holding};
+ghost use Rattle.wit_gathered.specs.Gathering.{is_early, is_hard};
 ghost use Rattle.wit_gathered.specs.Gathering.{is_interrupt, is_probe, is_soft, last_place, leaving};
 ghost use Rattle.wit_gathered.specs.Gathering.{letting_go, losing, masked_more, masks_all};
 ghost use Rattle.wit_gathered.specs.Gathering.{may_be_hard, may_be_soft, nothing_gathered};
@@ -359,8 +360,9 @@ impl Gathering {
         ensures { OnOk result (gathered self.new
             ≡ acquiring_class (gathered self.old) context masked (lockdep.acquiring acquired.now)) }
     {
-        let early = is_interrupt(context) || masks_all(masked);
-        let number = self.types.of_class(acquired, early)?;
+        let number = self
+            .types
+            .of_class(acquired, is_early(context, masked))?;
         let place = self.place_number(acquired.place)?;
         self.note_acquired(acquired.lock, number)?;
         self.acquire(&Taken {
@@ -440,23 +442,21 @@ impl Gathering {
         Ok(())
     }
 
+    #[tactic(auto, unfolding(crate::specs::Gathering::acquiring))]
     fn acquire(&mut self, taken: &Taken) -> Result<(), AllocError>
         ensures { OnOk result (gathered self.new ≡ acquiring (gathered self.old) taken.now) }
     {
+        let hold = hold_of(&self.settings, taken);
         self.ask_first(taken)?;
-        let again = reads_again(taken.reading);
-        let step = step_of(taken, self.settings.readers && taken.parted && again);
-        self.note_held(taken.context, step);
-        add_hold(
-            &mut self.held,
-            Hold {
-                context: taken.context,
-                lock: taken.lock,
-                reading: taken.reading,
-                step,
-            },
-        )?;
+        self.note_held(taken.context, hold.step);
+        self.hold(hold)?;
         self.may_come(taken.context, taken.masked, taken.place)
+    }
+
+    fn hold(&mut self, one: Hold) -> Result<(), AllocError>
+        ensures { OnOk result (gathered self.new ≡ holding (gathered self.old) one) }
+    {
+        add_hold(&mut self.held, one)
     }
 
     // Who tries doesn't wait, nor who reads again what it reads.
@@ -705,6 +705,26 @@ fn releases_mutex(deed: MutexDeed) -> bool
     match deed {
         MutexDeed::Releases => true,
         MutexDeed::Asks | MutexDeed::Gets | MutexDeed::Tries => false,
+    }
+}
+
+// Whether nothing may sleep there, as far as a line tells.
+fn is_early(context: Context, masked: Masked) -> bool
+    ensures { result ≡ is_early context masked }
+{
+    is_interrupt(context) || masks_all(masked)
+}
+
+// A recursive reader of a lock whose readers may be apart holds what is theirs.
+fn hold_of(settings: &Settings, taken: &Taken) -> Hold
+    ensures { result ≡ hold_of settings.now taken.now }
+{
+    let readers = settings.readers && taken.parted && reads_again(taken.reading);
+    Hold {
+        context: taken.context,
+        lock: taken.lock,
+        reading: taken.reading,
+        step: step_of(taken, readers),
     }
 }
 

@@ -4,7 +4,7 @@ ghost use Rattle.std.specs.Prelude.{◌≡◌, ◌≤◌, ◌++◌, IfOk, OnOk, 
 ghost use Rattle.wit_gathered.specs.Gathering.{gathered};
 ghost use Rattle.wit_gathered.specs.Naming.{base_name, class_and_name, class_name, class_of};
 ghost use Rattle.wit_gathered.specs.Naming.{clean, cleaned, full_name, is_held};
-ghost use Rattle.wit_gathered.specs.Naming.{name_by_times, names, names_of, none_named, place_name};
+ghost use Rattle.wit_gathered.specs.Naming.{mutex_named, name_by_times, names, names_of, none_named, place_name};
 ghost use Rattle.wit_gathered.specs.Naming.{readers_held, so_far, times_given, type_named};
 ghost use Rattle.wit_gathered.specs.Naming.{with_first, with_given, with_other, with_type, with_types};
 ghost use Rattle.wit_gathered.specs.Naming.{writers_held};
@@ -113,7 +113,7 @@ impl Naming {
     }
 
     fn mutex(&self, name: &[u8]) -> Result<Named, AllocError>
-        ensures { IfOk result (λ n. (n.class, n.name.items) ≡ (LockClass.Mutex, name.now)) }
+        ensures { IfOk result (λ n. (n.class, n.name.items) ≡ mutex_named name.now) }
     {
         Ok(Named {
             class: LockClass::Mutex,

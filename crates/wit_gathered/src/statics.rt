@@ -2,8 +2,10 @@
 
 ghost use Rattle.std.specs.Prelude.{◌≡◌, ◌++◌, [], IfOk, OnOk, is_some, unwrap_or};
 ghost use Rattle.std.specs.BTreeMap.{insert_entry};
+ghost use Rattle.std.specs.Map.Iter.{deref_pair};
+ghost use Rattle.std.specs.Option.{option_map};
 ghost use Rattle.std.specs.Ordering.{nat_cmp};
-ghost use Rattle.wit_gathered.specs.Symbols.{hexadecimal, name_at, offset_text, symbols};
+ghost use Rattle.wit_gathered.specs.Symbols.{hexadecimal, name_at, offset_text, symbol_at, symbols};
 
 use std::alloc::{AllocError, Global};
 use std::collections::BTreeMap;
@@ -74,6 +76,13 @@ impl Statics {
         Ok(())
     }
 
+    // The last symbol at the address or before it.
+    fn symbol_at(&self, address: u64) -> Option<(&u64, &SymbolName)>
+        ensures { option_map deref_pair result ≡ symbol_at (symbols self.now) address }
+    {
+        self.symbols.range(..=address).next_back()
+    }
+
     /// Puts the symbol of the static variable that an address lies in behind the text, with how far
     /// behind its beginning; says whether there is one.
     ///
@@ -87,7 +96,7 @@ impl Statics {
         if address < FIRST {
             return Ok(false);
         }
-        match self.symbols.range(..=address).next_back() {
+        match self.symbol_at(address) {
             Some((first, name)) => {
                 text.extend_from_slice(name.as_bytes())?;
                 put_offset(self.alloc, text, address.saturating_sub(*first))?;

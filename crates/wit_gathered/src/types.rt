@@ -7,7 +7,7 @@ ghost use Rattle.wit_traced.specs.Acquiring.{acquiring};
 ghost use Rattle.wit_gathered.specs.Types.{as_one, class_text, does_sleep, first_of, is_spinning};
 ghost use Rattle.wit_gathered.specs.Types.{joined, known, learnt, new_facts, nothing_known, noting};
 ghost use Rattle.wit_gathered.specs.Types.{numbered, of_class, of_lock, of_lock_met, of_mutex};
-ghost use Rattle.wit_gathered.specs.Types.{of_new_lock, place_text, renamed, same_lock, with_held};
+ghost use Rattle.wit_gathered.specs.Types.{of_new_lock, one_renamed, place_text, renamed, same_lock, with_held};
 ghost use Rattle.wit_gathered.specs.Types.{with_learnt, with_symbol};
 ghost use Rattle.wit_gathered.specs.Merging.{both, merged};
 ghost use Rattle.wit_gathered.specs.Symbols.{name_at};
@@ -322,16 +322,19 @@ impl Types {
 fn merged(first: usize, so_far: Facts, firsts: &[usize], facts: &[Facts]) -> Facts
     ensures { result ≡ merged first so_far firsts.now facts.now }
 {
-    match (firsts, facts) {
-        ([number, firsts @ ..], [one, facts @ ..]) => {
-            let so_far = if *number == first {
-                both(so_far, *one)
-            } else {
-                so_far
-            };
-            merged(first, so_far, firsts, facts)
-        }
-        _ => so_far,
+    match firsts {
+        [] => so_far,
+        [number, firsts @ ..] => match facts {
+            [] => so_far,
+            [one, facts @ ..] => {
+                let so_far = if *number == first {
+                    both(so_far, *one)
+                } else {
+                    so_far
+                };
+                merged(first, so_far, firsts, facts)
+            }
+        },
     }
 }
 
@@ -351,11 +354,15 @@ fn both(one: Facts, other: Facts) -> Facts
 fn rename(firsts: &mut [usize], from: usize, to: usize)
     ensures { firsts.new ≡ renamed from to firsts.old }
 {
-    for first in firsts {
-        if *first == from {
-            *first = to;
-        }
+    for at in 0..firsts.len() {
+        firsts[at] = one_renamed(from, to, firsts[at]);
     }
+}
+
+fn one_renamed(from: usize, to: usize, first: usize) -> usize
+    ensures { result ≡ one_renamed from to first }
+{
+    if first == from { to } else { first }
 }
 
 // What is known of a type that was not met before.
