@@ -5,20 +5,20 @@ use Rattle.wit_import.specs.Laws.{seen_behind, text_behind}
 use Rattle.wit_import.specs.Outputs.{seen_after, text_of_event}
 use Rattle.wit_import.specs.Telling.{Told, told_after, told_all}
 
-pub told_all-append : (t : Told) (events more : List Event)
+pub told_all_append : (t : Told) (events more : List Event)
     → told_all t (events ++ more) ≡ told_all (told_all t events) more
-told_all-append t [] more = refl
-told_all-append t (event ∷ events) more = told_all-append (told_after t event) events more
+told_all_append t [] more = refl
+told_all_append t (event ∷ events) more = told_all_append (told_after t event) events more
 
-pub seen-told_all : (t : Told) (events : List Event)
+pub seen_told_all : (t : Told) (events : List Event)
     → (told_all t events).seen ≡ seen_behind t.seen events
-seen-told_all t [] = refl
-seen-told_all t (event ∷ events) = seen-told_all (told_after t event) events
+seen_told_all t [] = refl
+seen_told_all t (event ∷ events) = seen_told_all (told_after t event) events
 
-pub text-told_all : (t : Told) (events : List Event)
+pub text_told_all : (t : Told) (events : List Event)
     → (told_all t events).text ≡ t.text ++ text_behind t.seen events
-text-told_all t [] = sym (append-nil t.text)
-text-told_all t (event ∷ events) =
-    text-told_all (told_after t event) events
+text_told_all t [] = sym (append-nil t.text)
+text_told_all t (event ∷ events) =
+    text_told_all (told_after t event) events
     ∙ append_assoc t.text (text_of_event t.seen event)
     (text_behind (seen_after t.seen event) events)

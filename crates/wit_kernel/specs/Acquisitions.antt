@@ -91,10 +91,13 @@ acquisition n places s =
 abbrev pub lock_type : Class → List ℕ → LockType
 lock_type class name = record { class = class; name = name }
 
+unfoldable pub released_text : List ℕ → List ℕ → List ℕ
+released_text name place = take LONGEST_NAME ((name ++ codes ", released at ") ++ place)
+
 abbrev pub released_type : LockClass × List ℕ → List ℕ → Option LockType
 released_type named place =
     option_map (lock_type (class_of named.0))
-    (accepted is_name (take LONGEST_NAME ((named.1 ++ codes ", released at ") ++ place)))
+    (accepted is_name (released_text named.1 place))
 
 abbrev pub released : Names → List (List ℕ) → Step → Option LockType
 released n places s = released_type (type_named n s.of) (place_text places s.place)

@@ -6,7 +6,7 @@ ghost use Rattle.wit_model.specs.Trace.Reading.{accepted};
 ghost use Rattle.wit_gathered.specs.Gathering.{gathered};
 ghost use Rattle.wit_gathered.specs.Naming.{names};
 ghost use Rattle.wit_kernel.specs.Acquisitions.{acquisition, bounded, class_of, clean, place_text};
-ghost use Rattle.wit_kernel.specs.Acquisitions.{released, site_of, site_with};
+ghost use Rattle.wit_kernel.specs.Acquisitions.{released, released_text, released_type, site_of, site_with};
 ghost use Rattle.wit_traced.specs.Numbers.{decimal as number_of};
 
 use std::alloc::{AllocError, Global};
@@ -67,25 +67,41 @@ pub fn released(
     ensures { IfOk result (λ of. of
         ≡ released (names naming.now) (gathered gathering.now).places step.now) }
 {
-    let Named { class, mut name } = naming.named(step.of)?;
+    let named = naming.named(step.of)?;
     let place = place_text(alloc, gathering, step.place)?;
-    name.extend_from_slice(b", released at ")?;
-    name.extend_from_slice(place.as_slice())?;
-    name.truncate(LONGEST_NAME);
-    let class = class_of(class);
-    match name_of(alloc, name.as_slice())? {
+    released_type(alloc, &named, place.as_slice())
+}
+
+fn released_type(alloc: Global, named: &Named, place: &[u8]) -> Result<Option<LockType>, AllocError>
+    ensures { IfOk result (λ of. of
+        ≡ released_type (named.now.class, named.now.name.items) place.now) }
+{
+    let text = released_text(alloc, named.name.as_slice(), place)?;
+    let class = class_of(named.class);
+    match name_of(alloc, text.as_slice())? {
         Some(name) => Ok(Some(LockType { class, name })),
         None => Ok(None),
     }
 }
 
+#[tactic(auto, unfolding(crate::specs::Acquisitions::released_text))]
+fn released_text(alloc: Global, name: &[u8], place: &[u8]) -> Result<Vec<u8>, AllocError>
+    ensures { IfOk result (λ text. text.items ≡ released_text name.now place.now) }
+{
+    let mut text = Vec::from_slice(alloc, name)?;
+    text.extend_from_slice(b", released at ")?;
+    text.extend_from_slice(place)?;
+    text.truncate(LONGEST_NAME);
+    Ok(text)
+}
+
 fn name_of(alloc: Global, bytes: &[u8]) -> Result<Option<Name>, AllocError>
     ensures { IfOk result (λ name. name ≡ accepted is_name bytes.now) }
 {
-    match str::from_utf8(bytes) {
-        Ok(text) => Name::new(alloc, text),
-        Err(_) => Ok(None),
-    }
+    let Ok(text) = str::from_utf8(bytes) else {
+        return Ok(None);
+    };
+    Name::new(alloc, text)
 }
 
 fn file_of(alloc: Global, bytes: &[u8]) -> Result<Option<FileName>, AllocError>

@@ -18,6 +18,7 @@ use wit_import::{Acquisition, Counts, Event, Teller};
 ///
 /// # Errors
 /// Want of memory alone.
+#[tactic(auto, using(wit_import::proofs::Further::text_told_all))]
 pub fn trace_of(alloc: Global, gathering: &Gathering) -> Result<(Vec<u8>, Counts), AllocError>
     ensures { IfOk result (λ r. r.0.items ≡ trace_text (gathered gathering.now)) }
 {
@@ -37,6 +38,7 @@ pub fn trace_of(alloc: Global, gathering: &Gathering) -> Result<(Vec<u8>, Counts
     Ok((text, counts))
 }
 
+#[tactic(auto, using(wit_import::proofs::Further::told_all_append))]
 fn tell_all(
     alloc: Global,
     teller: &mut Teller,
@@ -76,6 +78,7 @@ fn tell_kept(
 }
 
 // Nobody waits for what nobody ever held: that is not asked for.
+#[tactic(auto, using(wit_import::proofs::Further::told_all_append))]
 fn tell_request(
     alloc: Global,
     teller: &mut Teller,
