@@ -1,5 +1,5 @@
 -- What the program does with its words and its input.
-use Rattle.std.specs.Prelude.{ℕ, ◌≡◌, ◌⊎◌, List, Option, None, Ok}
+use Rattle.std.specs.Prelude.{ℕ, ◌≡◌, ◌⊎◌, false, List, Option, None, Ok}
 use Rattle.std.specs.Io.KnownBytes.{Keeps}
 use Rattle.wit_model.specs.declared.lines.View.{View}
 use Rattle.wit_model.specs.declared.lines.View.TheVariants.{Graph, Reports}
