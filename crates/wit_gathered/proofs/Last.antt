@@ -1,11 +1,11 @@
 -- The last of a list, and of what lies in a range.
 use Rattle.std.proofs.Common.{◌≡◌, ℕ, Bool, cond, List, [], ◌∷◌, ◌++◌, Option, Some, None, filter, nat_le}
-use Rattle.std.proofs.Common.{refl, sym, ap, ap₂, ◌∙◌, arith, MatchOption, not, option_map}
+use Rattle.std.proofs.Common.{refl, sym, ap, ap₂, ◌∙◌, arith, MatchOption, option_map}
 use Rattle.std.proofs.lemmas.Bool.Decides.{nat_tests}
 use Rattle.std.specs.BTreeMap.Range.{entries_between, range_contains}
 use Rattle.std.specs.declared.ops.Bound.TheVariants.{Included, Unbounded}
 use Rattle.std.specs.Ordering.{nat_cmp}
-use Rattle.wit_gathered.specs.Symbols.{last_of, symbol_at}
+use Rattle.wit_gathered.specs.Symbols.{last_of}
 
 last_of-snoc : {X : Type 0} (found : Option X) (xs : List X) (x : X)
     → last_of found (xs ++ x ∷ []) ≡ Some x

@@ -1,5 +1,5 @@
 -- What stays so of requests, whatever is asked for and released, stays so whatever lines are read.
-use Rattle.std.proofs.Common.{◌≡◌, ℕ, Bool, true, false, ◌&&◌, ◌||◌, not, List, [], ◌∷◌, Option, Some, None}
+use Rattle.std.proofs.Common.{ℕ, Bool, true, false, ◌&&◌, ◌||◌, not, List, [], ◌∷◌, Option, Some, None}
 use Rattle.std.proofs.Common.{is_some, nat_eq}
 use Rattle.std.proofs.lemmas.Bool.{cond_both}
 use Rattle.std.specs.Map.{lookup}
@@ -268,7 +268,7 @@ none-kept settings a b has = (cc)
 pub pairs-kept : PairsAreKept
 pairs-kept settings lines held asked = (
   lines-read AreKept asking-kept twice-kept (nothing_gathered settings) lines (none-kept settings)
-  held asked,
+      held asked,
   mutex-lines-read AreKept asking-kept twice-kept (nothing_gathered settings) lines
-  (none-kept settings) held asked,
+      (none-kept settings) held asked,
 )

@@ -1,5 +1,5 @@
 -- Requests: which are kept to be told.
-use Rattle.std.specs.Prelude.{ℕ, Bool, true, false, ◌&&◌, not, List, [], ◌∷◌, ◌++◌, nat_eq, if◌then◌else◌}
+use Rattle.std.specs.Prelude.{Bool, true, false, ◌&&◌, not, List, [], ◌∷◌, ◌++◌, nat_eq, if◌then◌else◌}
 use Rattle.std.specs.Prelude.{Option, Some, None}
 use Rattle.std.specs.Bool.{beq}
 use Rattle.std.specs.List.{list_any}
@@ -13,7 +13,6 @@ use Rattle.wit_gathered.specs.declared.requests.TheConstants.{NO_PLACE}
 use Rattle.wit_gathered.specs.declared.requests.Requests.{Requests}
 use Rattle.wit_gathered.specs.declared.types.Type.{«Type»}
 use Rattle.wit_gathered.specs.declared.types.Type.TheVariants as kind
-use Rattle.wit_gathered.specs.Asking.{Asking}
 use Rattle.wit_gathered.specs.Holds.{same_context}
 
 abbrev pub same_type : «Type» → «Type» → Bool

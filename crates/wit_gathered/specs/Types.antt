@@ -11,7 +11,6 @@ use Rattle.wit_traced.specs.declared.events.Kind.TheVariants.{Spins, SpinsForRea
 use Rattle.wit_traced.specs.declared.events.Reading.{Reading}
 use Rattle.wit_traced.specs.declared.events.Reading.TheVariants.{Writes}
 use Rattle.wit_traced.specs.declared.events.Call.{Call}
-use Rattle.wit_traced.specs.declared.symbols.Symbol.{Symbol}
 use Rattle.wit_traced.specs.Pieces.{has}
 use Rattle.wit_traced.specs.Acquiring.{Acquiring}
 use Rattle.wit_gathered.specs.declared.types.Facts.{Facts}

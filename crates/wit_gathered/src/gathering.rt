@@ -231,8 +231,8 @@ impl Gathering {
         ensures { gathered self.new ≡ unspun (gathered self.old) context }
     {
         let types = &self.types;
-        self.held
-            .retain(|one| !(same_context(one.context, context) && types.is_spinning(one.step.of)));
+        self.held.retain(|one| !(same_context(one.context, context)
+            && types.is_spinning(one.step.of)));
     }
 
     // Events are missing: nothing is known of what is held.
@@ -360,9 +360,7 @@ impl Gathering {
         ensures { OnOk result (gathered self.new
             ≡ acquiring_class (gathered self.old) context masked (lockdep.acquiring acquired.now)) }
     {
-        let number = self
-            .types
-            .of_class(acquired, is_early(context, masked))?;
+        let number = self.types.of_class(acquired, is_early(context, masked))?;
         let place = self.place_number(acquired.place)?;
         self.note_acquired(acquired.lock, number)?;
         self.acquire(&Taken {

@@ -195,7 +195,8 @@ fn same_type(one: Type, other: Type) -> bool
 {
     match (one, other) {
         (Type::Hardirq, Type::Hardirq) | (Type::Softirq, Type::Softirq) => true,
-        (Type::Of(one), Type::Of(other)) | (Type::ReadersOf(one), Type::ReadersOf(other)) => one == other,
+        (Type::Of(one), Type::Of(other)) | (Type::ReadersOf(one), Type::ReadersOf(other)) => one
+            == other,
         _ => false,
     }
 }
@@ -232,11 +233,7 @@ fn add_pairs(
     }
 }
 
-fn add_pair(
-    pairs: &mut IndexSet<(Type, Type)>,
-    held: Type,
-    asked: Type,
-) -> Result<(), AllocError>
+fn add_pair(pairs: &mut IndexSet<(Type, Type)>, held: Type, asked: Type) -> Result<(), AllocError>
     ensures { OnOk result (pairs.new.keys ≡ with_pair pairs.old.keys held asked) }
 {
     pairs.insert((held, asked))?;

@@ -253,7 +253,10 @@ impl Types {
         match of {
             Type::Of(number) => {
                 if let Some(facts) = self.facts.get(number).copied() {
-                    self.facts[number] = Facts { held: true, ..facts };
+                    self.facts[number] = Facts {
+                        held: true,
+                        ..facts
+                    };
                 }
             }
             Type::ReadersOf(number) => {

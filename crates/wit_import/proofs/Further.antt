@@ -1,5 +1,5 @@
 -- What is told of events, one behind the other.
-use Rattle.std.proofs.Common.{◌≡◌, ℕ, List, [], ◌∷◌, ◌++◌, refl, sym, ◌∙◌, append_assoc, append-nil}
+use Rattle.std.proofs.Common.{◌≡◌, List, [], ◌∷◌, ◌++◌, refl, sym, ◌∙◌, append_assoc, append-nil}
 use Rattle.wit_import.specs.declared.events.Event.{Event}
 use Rattle.wit_import.specs.Laws.{seen_behind, text_behind}
 use Rattle.wit_import.specs.Outputs.{seen_after, text_of_event}

@@ -1,5 +1,5 @@
 -- What was gathered, as events of an import. All of it is one thread's, and each lock is one by itself.
-use Rattle.std.specs.Prelude.{ℕ, ◌^◌, Bool, not, ◌&&◌, List, [], ◌∷◌, ◌++◌, Option, Some, None, codes, length, map}
+use Rattle.std.specs.Prelude.{ℕ, ◌^◌, ◌&&◌, List, [], ◌∷◌, ◌++◌, Option, Some, None, codes, length, map}
 use Rattle.std.specs.Prelude.{nat_eq, nat_le, nat_lt, slice_get, take, if◌then◌else◌}
 use Rattle.std.specs.Option.{option_map}
 use Rattle.wit_model.specs.declared.locks.Class.{Class}

@@ -1,6 +1,6 @@
 -- Events of kprobes on the functions of locks: `k_NAME: (..) a=LOCK ip=PLACE` where NAME is entered, and
 -- `r_NAME: (PLACE <- ..) r=NUMBER` where it returns.
-use Rattle.std.specs.Prelude.{ℕ, Bool, true, false, ◌||◌, not, List, [], ◌∷◌, Option, Some, None, codes}
+use Rattle.std.specs.Prelude.{ℕ, Bool, ◌||◌, not, List, [], ◌∷◌, Option, Some, None, codes}
 use Rattle.std.specs.Prelude.{if◌then◌else◌}
 use Rattle.std.specs.List.{list_all}
 use Rattle.std.specs.Option.{option_and_then, option_map}

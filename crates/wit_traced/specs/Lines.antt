@@ -1,5 +1,5 @@
 -- What a line of ftrace tells.
-use Rattle.std.specs.Prelude.{ℕ, ◌&&◌, ◌||◌, List, [], Option, Some, None, codes, length, nat_eq, if◌then◌else◌}
+use Rattle.std.specs.Prelude.{ℕ, ◌&&◌, ◌||◌, List, Option, Some, None, codes, length, nat_eq, if◌then◌else◌}
 use Rattle.std.specs.Option.{option_or}
 use Rattle.wit_traced.specs.Doings.{Doing}
 use Rattle.wit_traced.specs.Heads.{Columns, head_of}

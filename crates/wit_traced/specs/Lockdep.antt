@@ -1,12 +1,12 @@
 -- What lockdep is told: the lines `la: ` and `lr: ` with all of it, and the tracepoints `lock_acquire` and
 -- `lock_release`, which tell the name of a class alone.
-use Rattle.std.specs.Prelude.{ℕ, zero, suc, Bool, true, false, ◌||◌, not, List, [], ◌∷◌, Option, Some, None, codes}
+use Rattle.std.specs.Prelude.{ℕ, zero, suc, Bool, false, ◌||◌, not, List, [], ◌∷◌, Option, Some, None, codes}
 use Rattle.std.specs.Prelude.{drop, length, nat_eq, if◌then◌else◌}
 use Rattle.std.specs.List.{list_all}
 use Rattle.std.specs.Option.{option_and_then, option_map}
 use Rattle.std.specs.Str.{bytes_eq}
 use Rattle.wit_traced.specs.declared.events.Kind.{Kind}
-use Rattle.wit_traced.specs.declared.events.Kind.TheVariants.{Spins, SpinsForReaders, Sleeps, Map}
+use Rattle.wit_traced.specs.declared.events.Kind.TheVariants.{Spins, Sleeps, Map}
 use Rattle.wit_traced.specs.declared.events.Reading.{Reading}
 use Rattle.wit_traced.specs.declared.events.Reading.TheVariants.{Writes, Reads, Again}
 use Rattle.wit_traced.specs.declared.lockdep.Field.{Field}

@@ -1,5 +1,5 @@
 -- Pieces of a line.
-use Rattle.std.specs.Prelude.{ℕ, ◌+◌, ◌-◌, Bool, List, Option, Some, None, codes, drop, is_some, length, take}
+use Rattle.std.specs.Prelude.{ℕ, ◌+◌, ◌-◌, Bool, List, Option, Some, None, drop, is_some, length, take}
 use Rattle.std.specs.Prelude.{nat_eq, unwrap_or, if◌then◌else◌}
 use Rattle.std.specs.Char.{is_ascii_whitespace}
 use Rattle.std.specs.List.{prefix_len, starts_with, suffix_len}

@@ -1,8 +1,8 @@
 -- A line of `/proc/kallsyms`: an address, a letter, a name, and for one of a module the module.
-use Rattle.std.specs.Prelude.{ℕ, Bool, ◌&&◌, ◌||◌, List, [], ◌∷◌, Option, Some, None, length, nat_eq, nat_lt}
+use Rattle.std.specs.Prelude.{ℕ, Bool, ◌&&◌, ◌||◌, List, ◌∷◌, Option, Some, None, length, nat_eq, nat_lt}
 use Rattle.std.specs.Prelude.{if◌then◌else◌}
 use Rattle.std.specs.Char.{is_ascii_alphabetic}
-use Rattle.std.specs.Option.{option_and_then, option_map}
+use Rattle.std.specs.Option.{option_and_then}
 use Rattle.wit_traced.specs.declared.symbols.Symbol.{Symbol}
 use Rattle.wit_traced.specs.Numbers.{hexadecimal}
 use Rattle.wit_traced.specs.Pieces.{before, onward}

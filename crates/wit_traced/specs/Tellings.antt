@@ -1,5 +1,5 @@
 -- What a line tells.
-use Rattle.std.specs.Prelude.{Option, Some, None}
+use Rattle.std.specs.Prelude.{Option}
 use Rattle.std.specs.Option.{option_map}
 use Rattle.wit_traced.specs.declared.contexts.Context.{Context}
 use Rattle.wit_traced.specs.declared.contexts.Masked.{Masked}

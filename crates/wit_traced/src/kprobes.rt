@@ -13,7 +13,9 @@ ghost use Rattle.wit_traced.specs.Kprobes.{without_lines};
 use crate::contexts::Masked;
 use crate::events::{Action, Call, Deed, Kind, Reading};
 use crate::numbers::hexadecimal;
-use crate::pieces::{before, begins, behind, behind_first, has, place, rest, trimmed_start, without};
+use crate::pieces::{
+    before, begins, behind, behind_first, has, place, rest, trimmed_start, without,
+};
 
 /// What an event tells, where it is of such a function.
 pub fn probed(event: &[u8]) -> Option<Action<'_>>

@@ -15,7 +15,9 @@ ghost use Rattle.wit_traced.specs.Pieces.{behind_first};
 
 use crate::events::{Acquired, Action, Kind, Reading};
 use crate::numbers::hexadecimal;
-use crate::pieces::{before, begins, behind, behind_first, has, place, rest, trimmed_start, without};
+use crate::pieces::{
+    before, begins, behind, behind_first, has, place, rest, trimmed_start, without,
+};
 
 /// What an event tells, where it is of lockdep.
 pub fn told_lockdep(event: &[u8]) -> Option<Action<'_>>

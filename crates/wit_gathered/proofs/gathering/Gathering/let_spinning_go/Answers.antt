@@ -1,9 +1,9 @@
 use Rattle.std.proofs.Common.{◌&&◌, ap, not, rules}
 use Rattle.std.proofs.lemmas.Fn.{filter_same}
 use Rattle.wit_gathered.specs.declared.holds.Hold.{Hold}
-use Rattle.wit_gathered.specs.Gathering.{Gathered, gathered}
+use Rattle.wit_gathered.specs.Gathering.{gathered}
 use Rattle.wit_gathered.specs.Holds.{same_context}
-use Rattle.wit_gathered.specs.Types.{is_spinning, known}
+use Rattle.wit_gathered.specs.Types.{is_spinning}
 use Rattle.wit_gathered.proofs.gathering.Gathering.let_spinning_go.Goals as goal
 
 pub returns : goal.returns
