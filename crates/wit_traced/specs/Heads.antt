@@ -1,6 +1,6 @@
 -- The columns that each line of a trace begins with: the task and its number, the processor in brackets, the
 -- flags, which may be missing, and the time with a colon.
-use Rattle.std.specs.Prelude.{ℕ, Bool, false, ◌&&◌, ◌||◌, List, [], ◌∷◌, ◌++◌, Option, Some, None}
+use Rattle.std.specs.Prelude.{◌≡◌, ℕ, Bool, false, ◌&&◌, ◌||◌, List, [], ◌∷◌, ◌++◌, Option, Some, None}
 use Rattle.std.specs.Prelude.{nat_eq, if◌then◌else◌}
 use Rattle.std.specs.Char.{is_ascii_digit}
 use Rattle.std.specs.List.{ends_with}
@@ -87,6 +87,11 @@ head_from task (b ∷ bytes) =
     if nat_eq b 91
     then option_or (head_parted task bytes) (head_from (task ++ b ∷ []) bytes)
     else head_from (task ++ b ∷ []) bytes
+
+-- a bracket stands first, or nothing
+abbrev pub IsBracket : List ℕ → Type 0
+IsBracket [] = Unit {0}
+IsBracket (b ∷ bytes) = b ≡ 91
 
 abbrev pub head_of : List ℕ → Option Columns
 head_of bytes = head_from [] bytes

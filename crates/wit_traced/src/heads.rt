@@ -4,7 +4,7 @@
 
 ghost use Rattle.std.specs.Prelude.{◌≡◌, ◌≤◌, drop, length, take};
 ghost use Rattle.std.specs.Option.{option_copied, option_map};
-ghost use Rattle.wit_traced.specs.Heads.{bare_task, columns, columns_behind, columns_of, ends_time};
+ghost use Rattle.wit_traced.specs.Heads.{IsBracket, bare_task, columns, columns_behind, columns_of, ends_time};
 ghost use Rattle.wit_traced.specs.Heads.{head_from, head_of, head_parted, is_of_time, is_time};
 ghost use Rattle.wit_traced.specs.Heads.{task_number, with_flags};
 
@@ -33,14 +33,29 @@ fn head_from(bytes: &[u8], at: usize) -> Option<Head<'_>>
     requires { at ≤ length bytes.now }
     ensures { option_map columns result ≡ head_from (take at bytes.now) (drop at bytes.now) }
 {
-    let (task, others) = bytes.split_at(at);
+    let place = bracket_from(bytes, at);
+    let (task, others) = bytes.split_at(place);
     match others {
         [] => None,
-        [b'[', text @ ..] => match head_parted(task, text) {
+        [_, text @ ..] => match head_parted(task, text) {
             Some(head) => Some(head),
-            None => head_from(bytes, at + 1),
+            None => head_from(bytes, place + 1),
         },
-        [_, ..] => head_from(bytes, at + 1),
+    }
+}
+
+// Where the next bracket stands from a place on, or the length.
+fn bracket_from(bytes: &[u8], at: usize) -> usize
+    requires { at ≤ length bytes.now }
+    ensures within { (at ≤ result) × (result ≤ length bytes.now) }
+    ensures bracket { IsBracket (drop result bytes.now) }
+    ensures head { head_from (take at bytes.now) (drop at bytes.now)
+        ≡ head_from (take result bytes.now) (drop result bytes.now) }
+{
+    let (_, others) = bytes.split_at(at);
+    match others {
+        [] | [b'[', ..] => at,
+        [_, ..] => bracket_from(bytes, at + 1),
     }
 }
 
