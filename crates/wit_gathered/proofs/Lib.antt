@@ -1,0 +1,5 @@
+pub mod Keys
+pub mod Last
+pub mod Lines
+pub mod Pairs
+pub mod Same

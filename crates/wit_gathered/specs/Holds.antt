@@ -1,9 +1,11 @@
 -- What contexts hold: acquisitions, oldest first.
 use Rattle.std.specs.Prelude.{ℕ, ◌+◌, Bool, true, false, ◌&&◌, List, [], ◌∷◌, ◌++◌, Option, Some, None}
-use Rattle.std.specs.Prelude.{length, nat_eq, nat_lt, remove, if◌then◌else◌}
+use Rattle.std.specs.Prelude.{filter, length, nat_eq, nat_lt, not, remove, if◌then◌else◌}
 use Rattle.std.specs.List.{list_any}
 use Rattle.wit_traced.specs.declared.contexts.Context.{Context}
 use Rattle.wit_traced.specs.declared.contexts.Context.TheVariants.{Task, Idle, Softirq, Hardirq}
+use Rattle.wit_traced.specs.declared.events.Reading.{Reading}
+use Rattle.wit_traced.specs.declared.events.Reading.TheVariants.{Writes, Reads, Again}
 use Rattle.wit_gathered.specs.declared.holds.Hold.{Hold}
 use Rattle.wit_gathered.specs.declared.holds.TheConstants.{MOST_HELD}
 
@@ -52,3 +54,18 @@ without held (Some n) = remove held n
 
 abbrev pub released : List Hold → Context → ℕ → List Hold
 released held context lock = without held (place_released held context lock)
+
+-- ---- an acquisition by which it shows that others have released the lock, unseen
+
+abbrev pub is_writing : Reading → Bool
+is_writing Writes = true
+is_writing Reads = false
+is_writing Again = false
+
+-- another context has the lock alone
+abbrev pub is_others : Context → ℕ → Hold → Bool
+is_others context lock h =
+    is_lock lock h && (not (same_context h.context context) && is_writing h.reading)
+
+abbrev pub seen_held : List Hold → Context → ℕ → List Hold
+seen_held held context lock = filter (λ (h : Hold). not (is_others context lock h)) held

@@ -1,2 +1,12 @@
+pub mod Asking
+pub mod Entries
 pub mod Gathering
 pub mod Holds
+pub mod Laws
+pub mod Merging
+pub mod Names
+pub mod Naming
+pub mod Reading
+pub mod Requests
+pub mod Symbols
+pub mod Types

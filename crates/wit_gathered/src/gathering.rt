@@ -1,13 +1,31 @@
 //! Gathering, line by line.
 
-ghost use Rattle.std.specs.Prelude.{◌≡◌, [], OnOk, if◌then◌else◌};
-ghost use Rattle.wit_gathered.specs.declared.types.Type.TheVariants.{Of, ReadersOf};
-ghost use Rattle.wit_gathered.specs.Gathering.{hold_of, reads_again};
-ghost use Rattle.wit_gathered.specs.Holds.{released, with_newest};
+ghost use Rattle.std.specs.Prelude.{◌≡◌, ◌+◌, ◌<◌, ◌^◌, None, IfOk, IfSome, OnOk, length, slice_get};
+ghost use Rattle.std.specs.Option.{option_copied};
+ghost use Rattle.wit_traced.specs.Acquiring as lockdep;
+ghost use Rattle.wit_traced.specs.Doings.{doing};
+ghost use Rattle.wit_traced.specs.Tellings.{telling};
+ghost use Rattle.wit_gathered.specs.Gathering.{acquiring, acquiring_class, acquiring_lock};
+ghost use Rattle.wit_gathered.specs.Gathering.{acquiring_mutex, acting, asking_first, asking_for};
+ghost use Rattle.wit_gathered.specs.Gathering.{asking_interrupt, coming, entering};
+ghost use Rattle.wit_gathered.specs.Gathering.{gathered, getting_mutex, has_it, hold_of, holding};
+ghost use Rattle.wit_gathered.specs.Gathering.{is_early, is_hard};
+ghost use Rattle.wit_gathered.specs.Gathering.{is_interrupt, is_probe, is_soft, last_place, leaving};
+ghost use Rattle.wit_gathered.specs.Gathering.{letting_go, losing, masked_more, masks_all};
+ghost use Rattle.wit_gathered.specs.Gathering.{may_be_hard, may_be_soft, nothing_gathered};
+ghost use Rattle.wit_gathered.specs.Gathering.{noting_acquired, noting_held, noting_preemption};
+ghost use Rattle.wit_gathered.specs.Gathering.{parts_readers, passing_over, pending_at, pending_with};
+ghost use Rattle.wit_gathered.specs.Gathering.{reads_again, releases_mutex, releasing, same_pending};
+ghost use Rattle.wit_gathered.specs.Gathering.{step_of, tries, unspun, waiting};
+ghost use Rattle.wit_gathered.specs.Gathering.{with_place, with_telling, without_at};
+ghost use Rattle.wit_gathered.specs.Names.{number_in};
+ghost use Rattle.wit_gathered.specs.Reading.{symbol_read, with_line, with_mutex_line};
+ghost use Rattle.wit_traced.specs.SymbolLines.{symbol_of};
 
 use crate::holds::{Hold, add_hold, has_own, release, release_unseen, same_context};
+use crate::names::{Names, number};
 use crate::requests::{Requests, Step};
-use crate::types::{Type, Types};
+use crate::types::{Type, Types, does_sleep};
 use indexmap::{IndexMap, IndexSet};
 use std::alloc::{AllocError, Global};
 use wit_traced::{
@@ -73,7 +91,7 @@ pub struct Gathering {
     held: Vec<Hold>,
     pending: Vec<Pending>,
     pub types: Types,
-    pub places: IndexSet<Vec<u8>>,
+    places: Names,
     pub requests: Requests,
     /// The type of each lock that was acquired.
     acquired: IndexMap<u64, usize>,
@@ -88,7 +106,9 @@ pub struct Gathering {
 
 impl Gathering {
     /// Nothing yet.
-    pub fn new(alloc: Global, settings: Settings) -> Gathering {
+    pub fn new(alloc: Global, settings: Settings) -> Gathering
+        ensures { gathered result ≡ nothing_gathered settings }
+    {
         Gathering {
             alloc,
             settings,
@@ -114,18 +134,22 @@ impl Gathering {
     ///
     /// # Errors
     /// Want of memory alone.
-    pub fn take(&mut self, line: &[u8]) -> Result<(), AllocError> {
+    pub fn take(&mut self, line: &[u8]) -> Result<(), AllocError>
+        ensures { OnOk result (gathered self.new ≡ with_line (gathered self.old) line.now) }
+    {
         match told_of(line) {
-            Some(Told::Does(context, masked, preemption, action)) => {
-                self.note_preemption(context, preemption, &action);
-                self.act(context, masked, action)
-            }
-            Some(Told::Lost) => {
-                self.lose();
-                Ok(())
-            }
-            Some(Told::Remark) => Ok(()),
+            Some(told) => self.take_told(told),
             None => self.take_symbol(line),
+        }
+    }
+
+    /// The place with a number.
+    pub fn place(&self, number: usize) -> Option<&[u8]>
+        ensures { option_copied result ≡ slice_get (gathered self.now).places number }
+    {
+        match self.places.get_index(number) {
+            Some(place) => Some(place.as_slice()),
+            None => None,
         }
     }
 
@@ -133,49 +157,87 @@ impl Gathering {
     ///
     /// # Errors
     /// Want of memory alone.
-    pub fn take_mutex(&mut self, line: &[u8]) -> Result<(), AllocError> {
+    pub fn take_mutex(&mut self, line: &[u8]) -> Result<(), AllocError>
+        ensures { OnOk result (gathered self.new ≡ with_mutex_line (gathered self.old) line.now) }
+    {
         match mutex_told(line) {
-            Some(Told::Does(context, masked, _, action)) => self.act(context, masked, action),
-            Some(Told::Lost | Told::Remark) | None => {
-                self.counts.passed = self.counts.passed.saturating_add(1);
+            Some(told) => self.take_told(told),
+            None => {
+                self.pass();
                 Ok(())
             }
         }
     }
 
-    fn take_symbol(&mut self, line: &[u8]) -> Result<(), AllocError> {
+    fn take_told(&mut self, told: Told<'_>) -> Result<(), AllocError>
+        ensures { OnOk result (gathered self.new
+            ≡ with_telling (gathered self.old) (telling told.entry)) }
+    {
+        match told {
+            Told::Does(context, masked, preemption, action) => {
+                self.note_preemption(context, preemption, &action);
+                self.act(context, masked, action)
+            }
+            Told::Lost => {
+                self.lose();
+                Ok(())
+            }
+            Told::Remark => Ok(()),
+        }
+    }
+
+    fn take_symbol(&mut self, line: &[u8]) -> Result<(), AllocError>
+        ensures { OnOk result (gathered self.new
+            ≡ symbol_read (gathered self.old) (symbol_of line.now)) }
+    {
         match symbol_of(line) {
             Some(Some(symbol)) => self.types.add_symbol(symbol),
             Some(None) => Ok(()),
             None => {
-                self.counts.passed = self.counts.passed.saturating_add(1);
+                self.pass();
                 Ok(())
             }
         }
     }
 
+    // The line tells nothing.
+    fn pass(&mut self)
+        ensures { gathered self.new ≡ gathered self.old }
+    {
+        self.counts.passed = self.counts.passed.saturating_add(1);
+    }
+
     // Kprobes miss releases. Where a kernel counts how often preemption was turned off, as it is by each
     // lock that spins, a task in which it is on holds none of these.
-    fn note_preemption(&mut self, context: Context, preemption: Preemption, action: &Action<'_>) {
+    fn note_preemption(&mut self, context: Context, preemption: Preemption, action: &Action<'_>)
+        ensures { gathered self.new
+            ≡ noting_preemption (gathered self.old) context preemption (doing action.now) }
+    {
         if !is_probe(action) || is_interrupt(context) {
             return;
         }
         match preemption {
             Preemption::Off => self.counts_preemption = true,
-            Preemption::On if self.counts_preemption => {
-                let types = &self.types;
-                self.held.retain(|one| {
-                    !(same_context(one.context, context) && types.is_spinning(one.step.of))
-                });
+            Preemption::On => {
+                if self.counts_preemption {
+                    self.let_spinning_go(context);
+                }
             }
-            Preemption::On | Preemption::Untold => {}
+            Preemption::Untold => {}
         }
+    }
+
+    fn let_spinning_go(&mut self, context: Context)
+        ensures { gathered self.new ≡ unspun (gathered self.old) context }
+    {
+        let types = &self.types;
+        self.held.retain(|one| !(same_context(one.context, context)
+            && types.is_spinning(one.step.of)));
     }
 
     // Events are missing: nothing is known of what is held.
     fn lose(&mut self)
-        ensures held { self.new.held.items ≡ [] }
-        ensures pending { self.new.pending.items ≡ [] }
+        ensures { gathered self.new ≡ losing (gathered self.old) }
     {
         self.counts.lost = self.counts.lost.saturating_add(1);
         self.held.clear();
@@ -188,24 +250,34 @@ impl Gathering {
         context: Context,
         masked: Masked,
         action: Action<'_>,
-    ) -> Result<(), AllocError> {
+    ) -> Result<(), AllocError>
+        ensures { OnOk result (gathered self.new
+            ≡ acting (gathered self.old) context masked (doing action.entry)) }
+    {
         match action {
             Action::Enters(call, lock, place) => self.enter(context, masked, call, lock, place),
             Action::Returns(call, gives, place) => self.leave(context, masked, call, gives, place),
             Action::Acquires(acquired) => self.acquire_class(context, masked, &acquired),
-            Action::PassesOver(lock) => {
-                if self.passed_over.len() >= MOST_NOTED {
-                    self.passed_over.clear();
-                }
-                self.passed_over.insert(lock)?;
-                Ok(())
-            }
+            Action::PassesOver(lock) => self.pass_over(lock),
             Action::Releases(lock, place) => self.release(context, masked, lock, place, true),
-            Action::Does(MutexDeed::Releases, lock, place) => {
-                self.release(context, masked, lock, place, false)
+            Action::Does(deed, lock, place) => {
+                if releases_mutex(deed) {
+                    self.release(context, masked, lock, place, false)
+                } else {
+                    self.acquire_mutex(context, deed, lock, place)
+                }
             }
-            Action::Does(deed, lock, place) => self.acquire_mutex(context, deed, lock, place),
         }
+    }
+
+    fn pass_over(&mut self, lock: u64) -> Result<(), AllocError>
+        ensures { OnOk result (gathered self.new ≡ passing_over (gathered self.old) lock) }
+    {
+        if self.passed_over.len() >= MOST_NOTED {
+            self.passed_over.clear();
+        }
+        self.passed_over.insert(lock)?;
+        Ok(())
     }
 
     fn enter(
@@ -215,21 +287,21 @@ impl Gathering {
         call: Call,
         lock: u64,
         place: &[u8],
-    ) -> Result<(), AllocError> {
+    ) -> Result<(), AllocError>
+        ensures { OnOk result (gathered self.new
+            ≡ entering (gathered self.old) context masked call lock place.now call.deed) }
+    {
         match call.deed {
             Deed::Releases => self.release(context, masked, lock, place, false),
             Deed::Acquires => self.acquire_lock(context, masked, call, lock, place),
-            Deed::MayEnd | Deed::Tries => {
-                if self.pending.len() >= MOST_PENDING {
-                    self.pending.remove(0);
-                }
-                self.pending.push(Pending {
+            Deed::MayEnd | Deed::Tries => add_pending(
+                &mut self.pending,
+                Pending {
                     context,
                     call,
                     lock,
-                })?;
-                Ok(())
-            }
+                },
+            ),
         }
     }
 
@@ -240,18 +312,16 @@ impl Gathering {
         call: Call,
         gives: bool,
         place: &[u8],
-    ) -> Result<(), AllocError> {
-        let Some(lock) = take_pending(&mut self.pending, context, call) else {
-            return Ok(());
-        };
-        let has_it = match call.deed {
-            Deed::Tries => gives,
-            Deed::Acquires | Deed::MayEnd | Deed::Releases => !gives,
-        };
-        if !has_it {
-            return Ok(());
+    ) -> Result<(), AllocError>
+        ensures { OnOk result (gathered self.new
+            ≡ leaving (gathered self.old) context masked call gives place.now) }
+    {
+        match take_pending(&mut self.pending, context, call) {
+            Some(pending) if has_it(tries(call.deed), gives) => {
+                self.acquire_lock(context, masked, call, pending.lock, place)
+            }
+            _ => Ok(()),
         }
-        self.acquire_lock(context, masked, call, lock, place)
     }
 
     fn acquire_lock(
@@ -261,7 +331,10 @@ impl Gathering {
         call: Call,
         lock: u64,
         place: &[u8],
-    ) -> Result<(), AllocError> {
+    ) -> Result<(), AllocError>
+        ensures { OnOk result (gathered self.new
+            ≡ acquiring_lock (gathered self.old) context masked call lock place.now) }
+    {
         release_unseen(&mut self.held, context, lock);
         let number = self.types.of_lock(lock, call, place)?;
         let place = self.place_number(place)?;
@@ -272,9 +345,9 @@ impl Gathering {
             number,
             place,
             reading: call.reading,
-            tried: call.deed == Deed::Tries,
+            tried: tries(call.deed),
             nested: false,
-            parted: call.kind == Kind::SpinsForReaders,
+            parted: parts_readers(call.kind),
         })
     }
 
@@ -283,9 +356,11 @@ impl Gathering {
         context: Context,
         masked: Masked,
         acquired: &Acquired<'_>,
-    ) -> Result<(), AllocError> {
-        let early = is_interrupt(context) || masked == Masked::All;
-        let number = self.types.of_class(acquired, early)?;
+    ) -> Result<(), AllocError>
+        ensures { OnOk result (gathered self.new
+            ≡ acquiring_class (gathered self.old) context masked (lockdep.acquiring acquired.now)) }
+    {
+        let number = self.types.of_class(acquired, is_early(context, masked))?;
         let place = self.place_number(acquired.place)?;
         self.note_acquired(acquired.lock, number)?;
         self.acquire(&Taken {
@@ -297,7 +372,7 @@ impl Gathering {
             reading: acquired.reading,
             tried: acquired.tried,
             nested: acquired.nested,
-            parted: acquired.kind != Kind::Sleeps,
+            parted: !does_sleep(acquired.kind),
         })
     }
 
@@ -308,17 +383,38 @@ impl Gathering {
         deed: MutexDeed,
         lock: u64,
         place: &[u8],
-    ) -> Result<(), AllocError> {
+    ) -> Result<(), AllocError>
+        ensures { OnOk result (gathered self.new
+            ≡ acquiring_mutex (gathered self.old) context deed lock place.now) }
+    {
         let number = self.types.of_mutex(lock)?;
         let place = self.place_number(place)?;
-        if deed == MutexDeed::Asks {
-            let step = Step {
-                of: Type::Of(number),
-                place,
-                tried: false,
-            };
-            return self.ask(context, step, false);
+        match deed {
+            MutexDeed::Asks => {
+                let step = Step {
+                    of: Type::Of(number),
+                    place,
+                    tried: false,
+                };
+                self.ask(context, step, false)
+            }
+            MutexDeed::Gets => self.get_mutex(context, false, lock, number, place),
+            MutexDeed::Tries => self.get_mutex(context, true, lock, number, place),
+            MutexDeed::Releases => Ok(()),
         }
+    }
+
+    fn get_mutex(
+        &mut self,
+        context: Context,
+        tried: bool,
+        lock: u64,
+        number: usize,
+        place: usize,
+    ) -> Result<(), AllocError>
+        ensures { OnOk result (gathered self.new
+            ≡ getting_mutex (gathered self.old) context tried lock number place) }
+    {
         self.note_acquired(lock, number)?;
         self.acquire(&Taken {
             context,
@@ -327,13 +423,16 @@ impl Gathering {
             number,
             place,
             reading: Reading::Writes,
-            tried: deed == MutexDeed::Tries,
+            tried,
             nested: false,
             parted: false,
         })
     }
 
-    fn note_acquired(&mut self, lock: u64, number: usize) -> Result<(), AllocError> {
+    fn note_acquired(&mut self, lock: u64, number: usize) -> Result<(), AllocError>
+        ensures { OnOk result (gathered self.new
+            ≡ noting_acquired (gathered self.old) lock number) }
+    {
         if self.acquired.len() >= MOST_NOTED {
             self.acquired.clear();
         }
@@ -341,33 +440,38 @@ impl Gathering {
         Ok(())
     }
 
+    #[tactic(auto, unfolding(crate::specs::Gathering::acquiring))]
     fn acquire(&mut self, taken: &Taken) -> Result<(), AllocError>
-        ensures held { OnOk result (self.new.held.items ≡ with_newest self.old.held.items
-            (hold_of self.old.settings taken.now)) }
+        ensures { OnOk result (gathered self.new ≡ acquiring (gathered self.old) taken.now) }
+    {
+        let hold = hold_of(&self.settings, taken);
+        self.ask_first(taken)?;
+        self.note_held(taken.context, hold.step);
+        self.hold(hold)?;
+        self.may_come(taken.context, taken.masked, taken.place)
+    }
+
+    fn hold(&mut self, one: Hold) -> Result<(), AllocError>
+        ensures { OnOk result (gathered self.new ≡ holding (gathered self.old) one) }
+    {
+        add_hold(&mut self.held, one)
+    }
+
+    // Who tries doesn't wait, nor who reads again what it reads.
+    fn ask_first(&mut self, taken: &Taken) -> Result<(), AllocError>
+        ensures { OnOk result (gathered self.new ≡ asking_first (gathered self.old) taken.now) }
     {
         let again = reads_again(taken.reading);
-        let parted = self.settings.readers && taken.parted;
-        if !taken.tried && !(again && has_own(&self.held, taken.context, taken.lock)) {
-            self.ask_for(taken, parted && !again)?;
+        if taken.tried || again && has_own(&self.held, taken.context, taken.lock) {
+            return Ok(());
         }
-        let step = step_of(taken, parted && again);
-        self.note_held(taken.context, step);
-        add_hold(
-            &mut self.held,
-            Hold {
-                context: taken.context,
-                lock: taken.lock,
-                reading: taken.reading,
-                step,
-            },
-        )?;
-        self.may_come(taken.context, taken.masked, taken.place)
+        self.ask_for(taken, self.settings.readers && taken.parted && !again)
     }
 
     // Who isn't a recursive reader waits for these, too.
     fn ask_for(&mut self, taken: &Taken, for_readers: bool) -> Result<(), AllocError>
-        ensures { OnOk result ((self.new.held ≡ self.old.held)
-            × (self.new.settings ≡ self.old.settings)) }
+        ensures { OnOk result (gathered self.new
+            ≡ waiting (gathered self.old) taken.now for_readers) }
     {
         if for_readers {
             self.ask(taken.context, step_of(taken, true), taken.nested)?;
@@ -376,8 +480,8 @@ impl Gathering {
     }
 
     fn ask(&mut self, context: Context, asked: Step, nested: bool) -> Result<(), AllocError>
-        ensures { OnOk result ((self.new.held ≡ self.old.held)
-            × (self.new.settings ≡ self.old.settings)) }
+        ensures { OnOk result (gathered self.new
+            ≡ asking_for (gathered self.old) context asked nested) }
     {
         let interrupts = self.settings.interrupts;
         self.requests
@@ -385,37 +489,33 @@ impl Gathering {
     }
 
     fn note_held(&mut self, context: Context, step: Step)
-        ensures held { self.new.held ≡ self.old.held }
-        ensures settings { self.new.settings ≡ self.old.settings }
+        ensures { gathered self.new ≡ noting_held (gathered self.old) context step }
     {
         self.types.note_held(step.of);
-        match context {
-            Context::Hardirq(_) => self.hard = true,
-            Context::Softirq(_) => self.soft = true,
-            Context::Task(_) | Context::Idle(_) => {}
-        }
+        self.hard = self.hard || is_hard(context);
+        self.soft = self.soft || is_soft(context);
     }
 
     // What may come while locks are held is asked for.
     fn may_come(&mut self, context: Context, masked: Masked, place: usize) -> Result<(), AllocError>
-        ensures { OnOk result ((self.new.held ≡ self.old.held)
-            × (self.new.settings ≡ self.old.settings)) }
+        ensures { OnOk result (gathered self.new
+            ≡ coming (gathered self.old) context masked place) }
     {
         if !self.settings.interrupts {
             return Ok(());
         }
         if may_be_hard(context, masked) {
-            self.ask_interrupt(context, Type::Hardirq, place)?;
+            self.ask_interrupt(Type::Hardirq, context, place)?;
         }
         if may_be_soft(context, masked) {
-            self.ask_interrupt(context, Type::Softirq, place)?;
+            self.ask_interrupt(Type::Softirq, context, place)?;
         }
         Ok(())
     }
 
-    fn ask_interrupt(&mut self, context: Context, of: Type, place: usize) -> Result<(), AllocError>
-        ensures { OnOk result ((self.new.held ≡ self.old.held)
-            × (self.new.settings ≡ self.old.settings)) }
+    fn ask_interrupt(&mut self, of: Type, context: Context, place: usize) -> Result<(), AllocError>
+        ensures { OnOk result (gathered self.new
+            ≡ asking_interrupt of (gathered self.old) context place) }
     {
         let tried = false;
         self.ask(context, Step { of, place, tried }, false)
@@ -429,10 +529,24 @@ impl Gathering {
         place: &[u8],
         exact: bool,
     ) -> Result<(), AllocError>
-        ensures { OnOk result (self.new.held.items ≡ released self.old.held.items context lock) }
+        ensures { OnOk result (gathered self.new
+            ≡ releasing (gathered self.old) context masked lock place.now exact) }
     {
         let place = self.place_number(place)?;
         self.may_come(context, masked, place)?;
+        self.let_go(context, lock, exact, place)
+    }
+
+    fn let_go(
+        &mut self,
+        context: Context,
+        lock: u64,
+        exact: bool,
+        place: usize,
+    ) -> Result<(), AllocError>
+        ensures { OnOk result (gathered self.new
+            ≡ letting_go (gathered self.old) context lock exact place) }
+    {
         if release(&mut self.held, context, lock) || self.passed_over.contains(&lock) {
             return Ok(());
         }
@@ -448,36 +562,76 @@ impl Gathering {
     }
 
     fn place_number(&mut self, place: &[u8]) -> Result<usize, AllocError>
-        ensures { OnOk result ((self.new.held ≡ self.old.held)
-            × (self.new.settings ≡ self.old.settings)) }
+        ensures number { IfOk result (λ n. n ≡ number_in (gathered self.old).places place.now) }
+        ensures noted { OnOk result (gathered self.new ≡ with_place (gathered self.old) place.now) }
     {
-        if let Some(number) = self.places.get_index_of(place) {
-            return Ok(number);
-        }
-        let number = self.places.len();
-        self.places.insert(Vec::from_slice(self.alloc, place)?)?;
-        Ok(number)
+        number(self.alloc, &mut self.places, place)
     }
 }
 
-// The lock of the newest call of a function by a context that hasn't returned.
-fn take_pending(pending: &mut Vec<Pending>, context: Context, call: Call) -> Option<u64> {
-    let mut found = None;
-    for (place, one) in pending.iter().enumerate() {
-        if one.context == context && one.call == call {
-            found = Some(place);
+// So many at most: for a further one the oldest is forgotten.
+fn add_pending(pending: &mut Vec<Pending>, one: Pending) -> Result<(), AllocError>
+    ensures { OnOk result (pending.new.items ≡ pending_with pending.old.items one) }
+{
+    if pending.len() >= MOST_PENDING {
+        pending.remove(0);
+    }
+    pending.push(one)?;
+    Ok(())
+}
+
+// Takes out the newest call of a function by a context that hasn't returned.
+fn take_pending(pending: &mut Vec<Pending>, context: Context, call: Call) -> Option<Pending>
+    ensures taken { result ≡ pending_at pending.old.items
+        (last_place (same_pending context call) 0 None pending.old.items) }
+    ensures left { pending.new.items ≡ without_at pending.old.items
+        (last_place (same_pending context call) 0 None pending.old.items) }
+{
+    match place_pending(pending, 0, None, context, call) {
+        Some(place) => {
+            let one = pending[place];
+            pending.remove(place);
+            Some(one)
+        }
+        None => None,
+    }
+}
+
+// Its place, counted from a number.
+fn place_pending(
+    pending: &[Pending],
+    first: usize,
+    found: Option<usize>,
+    context: Context,
+    call: Call,
+) -> Option<usize>
+    requires room { first + length pending.now < 2 ^ 64 }
+    requires found { IfSome found (λ n. n < first + length pending.now) }
+    ensures place { result ≡ last_place (same_pending context call) first found pending.now }
+    ensures within { IfSome result (λ n. n < first + length pending.now) }
+{
+    match pending {
+        [] => found,
+        [one, others @ ..] => {
+            let found = match is_pending(one, context, call) {
+                true => Some(first),
+                false => found,
+            };
+            place_pending(others, first + 1, found, context, call)
         }
     }
-    let place = found?;
-    if place < pending.len() {
-        Some(pending.remove(place).lock)
-    } else {
-        None
-    }
+}
+
+fn is_pending(one: &Pending, context: Context, call: Call) -> bool
+    ensures { result ≡ same_pending context call one.now }
+{
+    same_context(one.context, context) && one.call.is(call)
 }
 
 // Whether a probed function is entered or returns.
-fn is_probe(action: &Action<'_>) -> bool {
+fn is_probe(action: &Action<'_>) -> bool
+    ensures { result ≡ is_probe (doing action.now) }
+{
     match action {
         Action::Enters(..) | Action::Returns(..) => true,
         Action::Acquires(_) | Action::PassesOver(_) | Action::Releases(..) | Action::Does(..) =>
@@ -485,10 +639,27 @@ fn is_probe(action: &Action<'_>) -> bool {
     }
 }
 
-fn is_interrupt(context: Context) -> bool {
+fn is_interrupt(context: Context) -> bool
+    ensures { result ≡ is_interrupt context }
+{
+    is_hard(context) || is_soft(context)
+}
+
+fn is_hard(context: Context) -> bool
+    ensures { result ≡ is_hard context }
+{
     match context {
-        Context::Hardirq(_) | Context::Softirq(_) => true,
-        Context::Task(_) | Context::Idle(_) => false,
+        Context::Hardirq(_) => true,
+        Context::Softirq(_) | Context::Task(_) | Context::Idle(_) => false,
+    }
+}
+
+fn is_soft(context: Context) -> bool
+    ensures { result ≡ is_soft context }
+{
+    match context {
+        Context::Softirq(_) => true,
+        Context::Hardirq(_) | Context::Task(_) | Context::Idle(_) => false,
     }
 }
 
@@ -501,13 +672,63 @@ fn reads_again(reading: Reading) -> bool
     }
 }
 
+fn tries(deed: Deed) -> bool
+    ensures { result ≡ tries deed }
+{
+    match deed {
+        Deed::Tries => true,
+        Deed::Acquires | Deed::MayEnd | Deed::Releases => false,
+    }
+}
+
+// Whether a function that returned has the lock, by whether it gives another number than 0.
+fn has_it(tries: bool, gives: bool) -> bool
+    ensures { result ≡ has_it tries gives }
+{
+    if tries { gives } else { !gives }
+}
+
+fn parts_readers(kind: Kind) -> bool
+    ensures { result ≡ parts_readers kind }
+{
+    match kind {
+        Kind::SpinsForReaders => true,
+        Kind::Spins | Kind::Sleeps | Kind::Map => false,
+    }
+}
+
+fn releases_mutex(deed: MutexDeed) -> bool
+    ensures { result ≡ releases_mutex deed }
+{
+    match deed {
+        MutexDeed::Releases => true,
+        MutexDeed::Asks | MutexDeed::Gets | MutexDeed::Tries => false,
+    }
+}
+
+// Whether nothing may sleep there, as far as a line tells.
+fn is_early(context: Context, masked: Masked) -> bool
+    ensures { result ≡ is_early context masked }
+{
+    is_interrupt(context) || masks_all(masked)
+}
+
+// A recursive reader of a lock whose readers may be apart holds what is theirs.
+fn hold_of(settings: &Settings, taken: &Taken) -> Hold
+    ensures { result ≡ hold_of settings.now taken.now }
+{
+    let readers = settings.readers && taken.parted && reads_again(taken.reading);
+    Hold {
+        context: taken.context,
+        lock: taken.lock,
+        reading: taken.reading,
+        step: step_of(taken, readers),
+    }
+}
+
 // The type that is held or asked for, or that of its recursive readers.
 fn step_of(taken: &Taken, readers: bool) -> Step
-    ensures { result ≡ (record {
-      of = if readers then ReadersOf taken.now.number else Of taken.now.number;
-      place = taken.now.place;
-      tried = taken.now.tried;
-    }) }
+    ensures { result ≡ step_of taken.now readers }
 {
     Step {
         of: if readers {
@@ -520,8 +741,19 @@ fn step_of(taken: &Taken, readers: bool) -> Step
     }
 }
 
+fn masks_all(masked: Masked) -> bool
+    ensures { result ≡ masks_all masked }
+{
+    match masked {
+        Masked::All => true,
+        Masked::Softirqs | Masked::Nothing => false,
+    }
+}
+
 // What can't come, by a line and by what its function masks.
-fn masked_more(masked: Masked, more: Masked) -> Masked {
+fn masked_more(masked: Masked, more: Masked) -> Masked
+    ensures { result ≡ masked_more masked more }
+{
     match (masked, more) {
         (Masked::All, _) | (_, Masked::All) => Masked::All,
         (Masked::Softirqs, _) | (_, Masked::Softirqs) => Masked::Softirqs,
@@ -529,16 +761,17 @@ fn masked_more(masked: Masked, more: Masked) -> Masked {
     }
 }
 
-fn may_be_hard(context: Context, masked: Masked) -> bool {
-    match (context, masked) {
-        (Context::Hardirq(_), _) | (_, Masked::All) => false,
-        (_, Masked::Nothing | Masked::Softirqs) => true,
-    }
+fn may_be_hard(context: Context, masked: Masked) -> bool
+    ensures { result ≡ may_be_hard context masked }
+{
+    !(is_hard(context) || masks_all(masked))
 }
 
-fn may_be_soft(context: Context, masked: Masked) -> bool {
-    match (context, masked) {
-        (Context::Task(_) | Context::Idle(_), Masked::Nothing) => true,
-        _ => false,
+fn may_be_soft(context: Context, masked: Masked) -> bool
+    ensures { result ≡ may_be_soft context masked }
+{
+    match masked {
+        Masked::Nothing => !is_interrupt(context),
+        Masked::Softirqs | Masked::All => false,
     }
 }

@@ -1,8 +1,10 @@
 //! What is held.
 
 ghost use Rattle.std.specs.Prelude.{◌≡◌, ◌+◌, ◌<◌, ◌^◌, IfSome, length, OnOk, is_some};
-ghost use Rattle.wit_gathered.specs.Holds.{has_own, is_lock, is_own, last_from, place_released};
-ghost use Rattle.wit_gathered.specs.Holds.{released, same_context, with_newest};
+ghost use Rattle.wit_gathered.specs.Holds.{has_own, is_lock, is_others, is_own, is_writing, last_from};
+ghost use Rattle.wit_gathered.specs.Holds.{place_released, released, same_context, seen_held};
+ghost use Rattle.wit_gathered.specs.Holds.{with_newest};
+ghost use Rattle.wit_gathered.specs.Requests.{interrupt_type};
 
 use crate::requests::Step;
 use crate::types::Type;
@@ -22,7 +24,9 @@ pub struct Hold {
 }
 
 /// The lock that an interrupt stands for, which its context holds.
-pub fn interrupt_of(context: Context) -> Option<Type> {
+pub fn interrupt_of(context: Context) -> Option<Type>
+    ensures { result ≡ interrupt_type context }
+{
     match context {
         Context::Hardirq(_) => Some(Type::Hardirq),
         Context::Softirq(_) => Some(Type::Softirq),
@@ -147,10 +151,24 @@ fn any_from(held: &[Hold], first: usize, found: Option<usize>, lock: u64) -> Opt
 
 /// Takes out what another context holds of a lock alone: it has released it, unseen, where somebody
 /// acquires it.
-pub fn release_unseen(held: &mut Vec<Hold>, context: Context, lock: u64) {
+pub fn release_unseen(held: &mut Vec<Hold>, context: Context, lock: u64)
+    ensures { held.new.items ≡ seen_held held.old.items context lock }
+{
     held.retain(|one| !is_others(one, context, lock));
 }
 
-fn is_others(one: &Hold, context: Context, lock: u64) -> bool {
-    one.lock == lock && !same_context(one.context, context) && one.reading == Reading::Writes
+fn is_others(one: &Hold, context: Context, lock: u64) -> bool
+    ensures { result ≡ is_others context lock one.now }
+{
+    is_lock(one, lock) && !same_context(one.context, context) && is_writing(one.reading)
+}
+
+/// Whether nobody else has a lock that is acquired so.
+pub fn is_writing(reading: Reading) -> bool
+    ensures { result ≡ is_writing reading }
+{
+    match reading {
+        Reading::Writes => true,
+        Reading::Reads | Reading::Again => false,
+    }
 }

@@ -4,6 +4,8 @@
 
 mod gathering;
 mod holds;
+pub mod laws;
+mod names;
 mod naming;
 mod requests;
 mod statics;

@@ -1,33 +1,65 @@
 //! The symbols of static variables.
 
+ghost use Rattle.std.specs.Prelude.{◌≡◌, ◌++◌, [], IfOk, OnOk, is_some, unwrap_or};
+ghost use Rattle.std.specs.BTreeMap.{insert_entry};
+ghost use Rattle.std.specs.Map.Iter.{deref_pair};
+ghost use Rattle.std.specs.Option.{option_map};
+ghost use Rattle.std.specs.Ordering.{nat_cmp};
+ghost use Rattle.wit_gathered.specs.Symbols.{hexadecimal, name_at, offset_text, symbol_at, symbols};
+
 use std::alloc::{AllocError, Global};
+use std::collections::BTreeMap;
+use std::marker::Model;
 use wit_traced::Symbol;
 
 /// Locks of the kernel itself and of its modules lie from here on.
 const FIRST: u64 = 0xffff_ffff_8100_0000;
 
+/// The name of a variable.
 #[derive(Debug, Drop)]
-struct Named {
-    address: u64,
-    name: Vec<u8>,
+pub struct SymbolName {
+    bytes: Vec<u8>,
 }
 
-/// The symbols that were read.
+impl Model for SymbolName {
+    ghost use Rattle.std.specs.Prelude.{ℕ, List};
+
+    ghost Value = { List ℕ };
+
+    ghost view = { λ n. n.bytes.items };
+}
+
+impl SymbolName {
+    fn new(alloc: Global, bytes: &[u8]) -> Result<SymbolName, AllocError>
+        ensures { IfOk result (λ name. name ≡ bytes.now) }
+    {
+        Ok(SymbolName {
+            bytes: Vec::from_slice(alloc, bytes)?,
+        })
+    }
+
+    fn as_bytes(&self) -> &[u8]
+        ensures { result.now ≡ self.now }
+    {
+        self.bytes.as_slice()
+    }
+}
+
+/// The symbols that were read, by their addresses. Of several at one address the last is kept.
 #[derive(Drop)]
 pub struct Statics {
     alloc: Global,
-    symbols: Vec<Named>,
-    /// Whether they stand by their addresses.
-    sorted: bool,
+    symbols: BTreeMap<u64, SymbolName>,
 }
 
 impl Statics {
     /// None yet.
-    pub fn new(alloc: Global) -> Statics {
+    pub fn new(alloc: Global) -> Statics
+        ensures { symbols result ≡ [] }
+    {
         Statics {
             alloc,
-            symbols: Vec::new(alloc),
-            sorted: true,
+            symbols: BTreeMap::new(alloc),
         }
     }
 
@@ -35,39 +67,39 @@ impl Statics {
     ///
     /// # Errors
     /// Want of memory alone.
-    pub fn add(&mut self, symbol: Symbol<'_>) -> Result<(), AllocError> {
-        self.symbols.push(Named {
-            address: symbol.address,
-            name: Vec::from_slice(self.alloc, symbol.name)?,
-        })?;
-        self.sorted = false;
+    pub fn add(&mut self, symbol: Symbol<'_>) -> Result<(), AllocError>
+        ensures { OnOk result (symbols self.new
+            ≡ insert_entry nat_cmp (symbols self.old) symbol.entry.address symbol.entry.name.now) }
+    {
+        let name = SymbolName::new(self.alloc, symbol.name)?;
+        self.symbols.insert(symbol.address, name)?;
         Ok(())
     }
 
-    /// Puts the symbol of the static variable behind the text that an address lies in, with how far
+    // The last symbol at the address or before it.
+    fn symbol_at(&self, address: u64) -> Option<(&u64, &SymbolName)>
+        ensures { option_map deref_pair result ≡ symbol_at (symbols self.now) address }
+    {
+        self.symbols.range(..=address).next_back()
+    }
+
+    /// Puts the symbol of the static variable that an address lies in behind the text, with how far
     /// behind its beginning; says whether there is one.
     ///
     /// # Errors
     /// Want of memory alone.
-    pub fn put_symbol(&mut self, address: u64, text: &mut Vec<u8>) -> Result<bool, AllocError> {
+    pub fn put_symbol(&self, address: u64, text: &mut Vec<u8>) -> Result<bool, AllocError>
+        ensures found { IfOk result (λ found. found ≡ is_some (name_at (symbols self.now) address)) }
+        ensures text { OnOk result (text.new.items
+            ≡ text.old.items ++ unwrap_or (name_at (symbols self.now) address) []) }
+    {
         if address < FIRST {
             return Ok(false);
         }
-        if !self.sorted {
-            self.symbols.sort_by_key(|symbol| symbol.address)?;
-            self.sorted = true;
-        }
-        let behind = self
-            .symbols
-            .as_slice()
-            .partition_point(|symbol| symbol.address <= address);
-        if behind == 0 {
-            return Ok(false);
-        }
-        match self.symbols.as_slice().get(behind - 1) {
-            Some(symbol) => {
-                text.extend_from_slice(symbol.name.as_slice())?;
-                put_offset(text, address.saturating_sub(symbol.address))?;
+        match self.symbol_at(address) {
+            Some((first, name)) => {
+                text.extend_from_slice(name.as_bytes())?;
+                put_offset(self.alloc, text, address.saturating_sub(*first))?;
                 Ok(true)
             }
             None => Ok(false),
@@ -75,48 +107,23 @@ impl Statics {
     }
 }
 
-fn put_offset(text: &mut Vec<u8>, offset: u64) -> Result<(), AllocError> {
+fn put_offset(alloc: Global, text: &mut Vec<u8>, offset: u64) -> Result<(), AllocError>
+    ensures { OnOk result (text.new.items ≡ text.old.items ++ offset_text offset) }
+{
     if offset == 0 {
         return Ok(());
     }
     text.push(b'+')?;
-    put_hexadecimal(text, offset)
+    put_hexadecimal(alloc, text, offset)
 }
 
 /// Puts a number behind the text, by hexadecimal digits behind `0x`.
 ///
 /// # Errors
 /// Want of memory alone.
-pub fn put_hexadecimal(text: &mut Vec<u8>, number: u64) -> Result<(), AllocError> {
-    text.extend_from_slice(b"0x")?;
-    let mut begun = false;
-    for at in 0..16_u32 {
-        let digit = (number >> (60 - 4 * at)) & 15;
-        if digit != 0 || begun || at == 15 {
-            begun = true;
-            text.push(hexadecimal_digit(digit))?;
-        }
-    }
-    Ok(())
-}
-
-fn hexadecimal_digit(digit: u64) -> u8 {
-    match digit {
-        0 => b'0',
-        1 => b'1',
-        2 => b'2',
-        3 => b'3',
-        4 => b'4',
-        5 => b'5',
-        6 => b'6',
-        7 => b'7',
-        8 => b'8',
-        9 => b'9',
-        10 => b'a',
-        11 => b'b',
-        12 => b'c',
-        13 => b'd',
-        14 => b'e',
-        _ => b'f',
-    }
+pub fn put_hexadecimal(alloc: Global, text: &mut Vec<u8>, number: u64) -> Result<(), AllocError>
+    ensures { OnOk result (text.new.items ≡ text.old.items ++ hexadecimal number) }
+{
+    let digits = format!(in alloc; "0x{number:x}")?;
+    text.extend_from_slice(digits.as_bytes())
 }

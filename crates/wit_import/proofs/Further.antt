@@ -1,25 +1,24 @@
--- A further event behind others.
-use Rattle.std.proofs.Common.{Result, Ok, Err, OnOk}
-use Rattle.std.proofs.Common.{◌≡◌, ℕ, List, [], ◌∷◌, ◌++◌, refl, sym, ap, ◌∙◌, append_assoc, append-nil}
+-- What is told of events, one behind the other.
+use Rattle.std.proofs.Common.{◌≡◌, List, [], ◌∷◌, ◌++◌, refl, sym, ◌∙◌, append_assoc, append-nil}
 use Rattle.wit_import.specs.declared.events.Event.{Event}
 use Rattle.wit_import.specs.Laws.{seen_behind, text_behind}
-use Rattle.wit_import.specs.Outputs.{Seen, seen_after, text_of_event}
+use Rattle.wit_import.specs.Outputs.{seen_after, text_of_event}
+use Rattle.wit_import.specs.Telling.{Told, told_after, told_all}
 
-pub seen-behind-last : (events : List Event) (s : Seen) (e : Event)
-    → seen_behind s (events ++ e ∷ []) ≡ seen_after (seen_behind s events) e
-seen-behind-last [] s e = refl
-seen-behind-last (first ∷ events) s e = seen-behind-last events (seen_after s first) e
+pub told_all_append : (t : Told) (events more : List Event)
+    → told_all t (events ++ more) ≡ told_all (told_all t events) more
+told_all_append t [] more = refl
+told_all_append t (event ∷ events) more = told_all_append (told_after t event) events more
 
-pub text-behind-last : (events : List Event) (s : Seen) (e : Event)
-    → text_behind s (events ++ e ∷ [])
-    ≡ text_behind s events ++ text_of_event (seen_behind s events) e
-text-behind-last [] s e = append-nil (text_of_event s e)
-text-behind-last (first ∷ events) s e =
-    ap (λ (w : List ℕ). text_of_event s first ++ w) (text-behind-last events (seen_after s first) e)
-    ∙ sym (append_assoc (text_of_event s first) (text_behind (seen_after s first) events)
-    (text_of_event (seen_behind (seen_after s first) events) e))
+pub seen_told_all : (t : Told) (events : List Event)
+    → (told_all t events).seen ≡ seen_behind t.seen events
+seen_told_all t [] = refl
+seen_told_all t (event ∷ events) = seen_told_all (told_after t event) events
 
--- what follows of two facts, each where there is no error
-pub both-ok : {X E A B C : Type 0} (r : Result X E) → (A → B → C) → OnOk r A → OnOk r B → OnOk r C
-both-ok (Ok x) f a b = f a b
-both-ok (Err e) f a b = tt
+pub text_told_all : (t : Told) (events : List Event)
+    → (told_all t events).text ≡ t.text ++ text_behind t.seen events
+text_told_all t [] = sym (append-nil t.text)
+text_told_all t (event ∷ events) =
+    text_told_all (told_after t event) events
+    ∙ append_assoc t.text (text_of_event t.seen event)
+    (text_behind (seen_after t.seen event) events)

@@ -67,7 +67,7 @@ module _ (names : List (List ℕ)) (n : List ℕ) where
 -- ---- the pairs of a request
 
 module _ (thread b : List ℕ) where
-  pairs-still : (held : List Holding) (pairs : List (List ℕ)) (p : List ℕ)
+  pub pairs-still : (held : List Holding) (pairs : List (List ℕ)) (p : List ℕ)
       → has_name pairs p ≡ true → has_name (with_pairs pairs thread b held) p ≡ true
   pairs-still [] pairs p has = has
   pairs-still (h ∷ held) pairs p has =

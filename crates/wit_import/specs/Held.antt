@@ -55,13 +55,6 @@ abbrev pub place_released : List Holding → Release → Option ℕ
 place_released held r =
     or_else (last_from (is_own r.thread r.lock) 0 None held) (last_from (is_lock r.lock) 0 None held)
 
-abbrev pub without : List Holding → Option ℕ → List Holding
-without held None = held
-without held (Some n) = remove held n
-
-abbrev pub released : List Holding → Release → List Holding
-released held r = without held (place_released held r)
-
 -- ---- what was released: so many locks are kept, and for a further one all are forgotten
 
 abbrev pub with_freed : List (List ℕ) → List ℕ → List (List ℕ)

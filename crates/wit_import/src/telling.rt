@@ -1,7 +1,7 @@
 //! A trace in the making: it is told of events, one behind the other.
 
 ghost use Rattle.std.specs.Prelude.{◌≡◌, IfOk, OnOk};
-ghost use Rattle.wit_import.specs.Telling.{IsTold, IsTrace};
+ghost use Rattle.wit_import.specs.Telling.{nothing_told, told, told_after};
 
 use crate::events::Event;
 use crate::importing::{Counts, Importing, put_header};
@@ -20,7 +20,7 @@ impl Teller {
     /// # Errors
     /// Want of memory alone.
     pub fn new(alloc: Global) -> Result<Teller, AllocError>
-        ensures { IfOk result IsTold }
+        ensures { IfOk result (λ teller. told teller ≡ nothing_told) }
     {
         let mut text = Vec::new(alloc);
         put_header(&mut text)?;
@@ -33,16 +33,14 @@ impl Teller {
     /// # Errors
     /// Want of memory alone; nothing is promised then.
     pub fn tell(&mut self, alloc: Global, event: Event) -> Result<(), AllocError>
-        requires { IsTold self.old }
-        ensures { OnOk result (IsTold self.new) }
+        ensures { OnOk result (told self.new ≡ told_after (told self.old) event) }
     {
         self.importing.follow(alloc, event, &mut self.text)
     }
 
     /// The trace, and what was counted.
     pub fn into_trace(self) -> (Vec<u8>, Counts)
-        requires { IsTold self }
-        ensures { IsTrace result.0.items }
+        ensures { result.0.items ≡ (told self).text }
     {
         (self.text, self.importing.counts)
     }

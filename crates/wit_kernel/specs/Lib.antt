@@ -1,1 +1,3 @@
+pub mod Acquisitions
+pub mod Laws
 pub mod Outputs

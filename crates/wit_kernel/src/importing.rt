@@ -1,9 +1,10 @@
 //! An import of a tracer's lines, which is written once they are all read.
 
-ghost use Rattle.std.specs.Prelude.{◌≡◌, Err, IfOk, OnErr, Ok};
-ghost use Rattle.std.specs.Io.KnownBytes.{Keeps};
+ghost use Rattle.std.specs.Prelude.{◌≡◌, IfOk, OnErr, OnOk};
 ghost use Rattle.wit_stream.specs.Stream.{WritesFront, WritesOutput};
-ghost use Rattle.wit_kernel.specs.Outputs.{IsOutput, Imports, some_output};
+ghost use Rattle.wit_gathered.specs.Gathering.{gathered};
+ghost use Rattle.wit_import.specs.Outputs.{IsOutput, some_output};
+ghost use Rattle.wit_kernel.specs.Outputs.{Imports, allowed, gathering, output_from, whole};
 
 use crate::telling::trace_of;
 use std::alloc::{AllocError, Global};
@@ -23,8 +24,7 @@ pub enum Tracer {
     Lttng,
 }
 
-/// Reads lines of a tracer to their end, and writes the trace of some events: those that are gathered of
-/// the lines. A last line that the input ends in is passed over. One that is too long ends the reading: its
+/// Reads lines of a tracer to their end, and writes the trace of the events that are gathered of them. A last line that the input ends in is passed over. One that is too long ends the reading: its
 /// number and cause are written behind the trace of those before it.
 ///
 /// # Errors
@@ -38,9 +38,9 @@ pub fn import_traced<R: BufRead, W: Write>(
     output: &mut W,
     counts: &mut Counts,
 ) -> Result<Summary, ReplayError>
-    ensures ok { IfOk result (WritesOutput Imports
+    ensures ok { IfOk result (WritesOutput (Imports source settings)
         (R.remaining input.old) (W.contents output.old) (W.contents output.new)) }
-    ensures err { OnErr result (WritesFront Imports
+    ensures err { OnErr result (WritesFront (Imports source settings)
         (R.remaining input.old) (W.contents output.old) (W.contents output.new)) }
 {
     let mut machine = Gatherer {
@@ -69,13 +69,24 @@ pub(crate) struct Gatherer {
 }
 
 impl Gatherer {
+    fn take(&mut self, line: &[u8]) -> Result<(), AllocError>
+        ensures gathered { OnOk result (gathered self.new.gathering
+            ≡ gathering self.old.source (gathered self.old.gathering) line.now) }
+        ensures source { OnOk result (self.new.source ≡ self.old.source) }
+    {
+        match self.source {
+            Tracer::Ftrace => self.gathering.take(line),
+            Tracer::Lttng => self.gathering.take_mutex(line),
+        }
+    }
+
     // The whole text, with the bad line behind it, and its summary.
     fn whole(
         &mut self,
         alloc: Global,
         bad: Option<(u64, Cause)>,
     ) -> Result<(Vec<u8>, Summary), AllocError>
-        ensures { IfOk result (λ r. IsOutput r.0.items r.1) }
+        ensures { IfOk result (λ r. IsOutput (whole (gathered self.old.gathering) bad) r.0.items r.1) }
     {
         let (mut text, counts) = trace_of(alloc, &self.gathering)?;
         self.counts = counts;
@@ -99,7 +110,7 @@ impl Machine for Gatherer {
 
     ghost shows_by = { λ m. tt };
 
-    ghost allows = { λ by m number lines tail text summary. IsOutput text summary };
+    ghost allows = { λ by. allowed };
 
     ghost reports = { λ m. 0 };
 
@@ -110,10 +121,7 @@ impl Machine for Gatherer {
         bytes: &[u8],
         text: &mut Vec<u8>,
     ) -> Result<Step, AllocError> {
-        match self.source {
-            Tracer::Ftrace => self.gathering.take(bytes)?,
-            Tracer::Lttng => self.gathering.take_mutex(bytes)?,
-        }
+        self.take(bytes)?;
         Ok(Step::Goes)
     }
 
@@ -134,5 +142,6 @@ impl Machine for Gatherer {
         self.whole(alloc, None)
     }
 
-    ghost answers = { λ by m number lines tail. some_output };
+    ghost answers = { λ by m n lines tail.
+        some_output (output_from m.source (gathered m.gathering) n lines tail) };
 }

@@ -4,6 +4,7 @@
 
 mod acquisitions;
 mod importing;
+pub mod laws;
 mod telling;
 
 pub use importing::{Tracer, import_traced};

@@ -1,1 +1,13 @@
+pub mod Acquiring
+pub mod Calls
 pub mod Contexts
+pub mod Doings
+pub mod Heads
+pub mod Kprobes
+pub mod Lines
+pub mod Lockdep
+pub mod Lttng
+pub mod Numbers
+pub mod Pieces
+pub mod SymbolLines
+pub mod Tellings

@@ -1,5 +1,8 @@
 //! What a line tells.
 
+ghost use Rattle.std.specs.Prelude.{◌≡◌};
+ghost use Rattle.wit_traced.specs.Calls.{same_call, same_deed, same_kind, same_masked, same_reading};
+
 use crate::contexts::{Context, Masked, Preemption};
 
 /// What a lock is, as far as a line tells.
@@ -47,6 +50,42 @@ pub struct Call {
     pub reading: Reading,
     /// What it masks before it acquires the lock.
     pub masks: Masked,
+}
+
+impl Call {
+    /// Whether that is one of the function.
+    pub fn is(&self, other: Call) -> bool
+        ensures { result ≡ same_call self.now other }
+    {
+        same_deed(self.deed, other.deed)
+            && same_kind(self.kind, other.kind)
+            && same_reading(self.reading, other.reading)
+            && same_masked(self.masks, other.masks)
+    }
+}
+
+fn same_deed(one: Deed, other: Deed) -> bool
+    ensures { result ≡ same_deed one other }
+{
+    one == other
+}
+
+fn same_kind(one: Kind, other: Kind) -> bool
+    ensures { result ≡ same_kind one other }
+{
+    one == other
+}
+
+fn same_reading(one: Reading, other: Reading) -> bool
+    ensures { result ≡ same_reading one other }
+{
+    one == other
+}
+
+fn same_masked(one: Masked, other: Masked) -> bool
+    ensures { result ≡ same_masked one other }
+{
+    one == other
 }
 
 /// What lockdep is told of an acquisition.

@@ -17,4 +17,6 @@ pub use contexts::{Context, Masked, Preemption};
 pub use events::{Acquired, Action, Call, Deed, Kind, MutexDeed, Reading, Told};
 pub use lines::told_of;
 pub use lttng::mutex_told;
+pub use numbers::decimal;
+pub use pieces::{before, before_last, begins, behind_last, has, rest};
 pub use symbols::{Symbol, symbol_of};

@@ -1,5 +1,5 @@
 -- What the program does with its words and its input.
-use Rattle.std.specs.Prelude.{ℕ, ◌≡◌, ◌⊎◌, List, Option, None, Ok}
+use Rattle.std.specs.Prelude.{ℕ, ◌≡◌, ◌⊎◌, false, List, Option, None, Ok}
 use Rattle.std.specs.Io.KnownBytes.{Keeps}
 use Rattle.wit_model.specs.declared.lines.View.{View}
 use Rattle.wit_model.specs.declared.lines.View.TheVariants.{Graph, Reports}
@@ -10,7 +10,8 @@ use Rattle.wit_migrate.specs.Again.{WritesTheSame}
 use Rattle.wit_migrate.specs.Migrates.{Migrates, MigratesFrom}
 use Rattle.wit_grades.specs.Outputs.{Grades, GradesFrom, nothing_told}
 use Rattle.wit_import.specs.Outputs.{Imports, ImportsFrom, nothing_seen}
-use Rattle.wit_kernel.specs.Outputs.{Imports as ImportsTraced}
+use Rattle.wit_kernel.specs.declared.importing.Tracer.TheVariants as tracer
+use Rattle.wit_kernel.specs.Outputs.{Imports as ImportsTraced, settings}
 use Rattle.wit_command.specs.declared.command.Source.{Source}
 use Rattle.wit_command.specs.declared.command.Source.TheVariants.{Ftrace, Lttng, Plain}
 use Rattle.wit_trace.specs.Replays.{ShowsTrace, ShowsFrom}
@@ -94,11 +95,12 @@ pub record TellsGrades (read written_old written_new : Option (List ℕ)) : Type
   pub left : Option (List ℕ)
   pub told : WritesLines GradesFrom nothing_told read left written_old written_new
 
--- what is written of an input: the one trace of a script's lines, and of a tracer's that of some events
+-- what is written of an input: the one trace of a script's lines or of a tracer's
 abbrev pub ImportsBy : Source → List ℕ → List ℕ → Summary → Type 0
 ImportsBy Plain = Imports
-ImportsBy (Ftrace encoding) = ImportsTraced
-ImportsBy Lttng = ImportsTraced
+ImportsBy (Ftrace encoding) =
+    ImportsTraced tracer.Ftrace (settings encoding.interrupts encoding.readers)
+ImportsBy Lttng = ImportsTraced tracer.Lttng (settings false false)
 
 -- the trace that the input makes was written, and this is its status, as where nothing is reported
 pub record IsImportedWhole (source : Source) (read written_old written_new : Option (List ℕ))

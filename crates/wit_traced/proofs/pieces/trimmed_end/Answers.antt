@@ -1,0 +1,6 @@
+use Rattle.std.proofs.lemmas.Str.Ascii.{trim_ascii_end_is}
+use Rattle.wit_traced.proofs.pieces.trimmed_end.Goals as goal
+
+pub returns : goal.returns
+returns c =
+    trim_ascii_end_is c.args.bytes.now c.trim_ascii_end.result.now c.trim_ascii_end.ensures.value
