@@ -5,16 +5,7 @@
 
 #include "holdings.h"
 #include "memory.h"
-#include "replay.h"
 #include "thread_label.h"
-#include "verdict.h"
-
-/* What is told of circles: the trace at its end. */
-struct scene {
-    struct process *process;
-    struct trace trace;
-    struct holdings holdings;
-};
 
 static bool waits_for_itself(const struct notes *notes)
 {
@@ -35,10 +26,10 @@ static const struct event *thread_of(const struct notes *notes, unsigned seat, s
 
 /* A line of the last report, of a seat and a lock. The heading is let go. */
 static struct report_line *add_line(
-    struct scene *scene, enum line_kind kind, unsigned seat, const char *lock, char *heading, struct piece place)
+    struct process *process, enum line_kind kind, unsigned seat, const char *lock, char *heading, struct piece place)
 {
     char *at = copy_bytes(place.at ? place.at : "", (size_t)place.length);
-    struct report_line *line = reports_add_line(&scene->process->reports, kind, heading, at);
+    struct report_line *line = reports_add_line(&process->reports, kind, heading, at);
     line->seat = seat;
     line->name = copy(lock);
     free(at);
@@ -46,25 +37,15 @@ static struct report_line *add_line(
     return line;
 }
 
-static bool is_first(const struct seat *seat, size_t number)
-{
-    for (size_t i = 0; i < number; i++)
-        if (seat->held[i].lock == seat->held[number].lock)
-            return false;
-    return true;
-}
-
 /* What the seat holds, a line for each lock. */
-static void add_held(struct scene *scene, unsigned seat, const struct event *thread)
+static void add_held(struct process *process, unsigned seat, const struct event *thread)
 {
-    const struct seat *held = &scene->holdings.seat[seat];
+    const struct seat *held = &process->state.holdings.seat[seat];
     char *name = thread_name(thread);
     for (size_t i = 0; i < held->count; i++) {
-        if (!is_first(held, i))
-            continue;
-        const char *lock = notes_lock(&scene->process->notes, held->held[i].lock)->name;
+        const char *lock = notes_lock(&process->notes, held->held[i].lock)->name;
         char *heading = say_text(" seat %u%s holds \"%s\"", seat, name, lock);
-        add_line(scene, LINE_HOLDS, seat, lock, heading, held->held[i].place);
+        add_line(process, LINE_HOLDS, seat, lock, heading, held->held[i].place);
     }
     free(name);
 }
@@ -76,29 +57,6 @@ static bool is_read_by(const struct seat *seat, unsigned lock)
         if (seat->held[i].lock == lock)
             return seat->held[i].shared;
     return false;
-}
-
-/* ` seat N waits for "NAME" held by seat N`, as the verifier tells it. */
-static void add_wait(struct scene *scene, const char *told)
-{
-    const struct notes *notes = &scene->process->notes;
-    const char *open = strchr(told, '"'), *close = strrchr(told, '"'), *last = strrchr(told, ' ');
-    unsigned seat = 0, next = last ? (unsigned)strtoul(last + 1, NULL, 10) : 0;
-    int length = 0;
-    if (sscanf(told, " seat %u%n", &seat, &length) != 1 || seat > SEATS_MOST || !open || open == close)
-        return;
-    const struct event *thread = thread_of(notes, seat, notes->events);
-    char *label = thread_label(thread), *name = thread_name(thread_of(notes, next, notes->events));
-    char *heading = say_text(" seat %u%s%s%s", seat, label, told + length, name);
-    char *lock = copy_bytes(open + 1, (size_t)(close - open - 1));
-    struct report_line *line = add_line(scene, LINE_WAITS, seat, lock, heading, scene->holdings.seat[seat].asked_at);
-    line->next = next;
-    const struct seat *holder = next <= SEATS_MOST ? &scene->holdings.seat[next] : NULL;
-    line->is_behind_readers = holder && is_read_by(holder, scene->holdings.seat[seat].asked);
-    add_held(scene, seat, thread);
-    free(lock);
-    free(label);
-    free(name);
 }
 
 /*
@@ -149,67 +107,53 @@ static bool comes_round(struct walk *walk)
     return false;
 }
 
-/* ` seat N waits for "NAME" ..`, for each seat of the circle. */
-static void add_walk(struct scene *scene, const struct walk *walk)
+/* ` seat N waits for "NAME" ..`, and what the seat holds. */
+static void add_wait(struct process *process, unsigned seat, unsigned next)
 {
-    reports_add(&scene->process->reports, REPORT_CIRCLE, "circle:");
-    for (unsigned i = 0; i < walk->length; i++) {
-        unsigned seat = walk->path[i], next = walk->path[(i + 1) % walk->length];
-        const struct seat *waits = &walk->holdings->seat[seat];
-        const char *lock = notes_lock(&scene->process->notes, waits->asked)->name;
-        char *told = say_text(" seat %u waits for \"%s\" %s seat %u", seat, lock,
-            is_behind(waits, &walk->holdings->seat[next]) ? "behind a writer, who waits for" : "held by", next);
-        add_wait(scene, told);
-        free(told);
-    }
+    const struct notes *notes = &process->notes;
+    const struct seat *waits = &process->state.holdings.seat[seat], *has = &process->state.holdings.seat[next];
+    const struct event *thread = thread_of(notes, seat, notes->events);
+    const char *lock = notes_lock(notes, waits->asked)->name;
+    char *label = thread_label(thread), *name = thread_name(thread_of(notes, next, notes->events));
+    char *heading = say_text(" seat %u%s waits for \"%s\" %s seat %u%s", seat, label, lock,
+        is_behind(waits, has) ? "behind a writer, who waits for" : "held by", next, name);
+    struct report_line *line = add_line(process, LINE_WAITS, seat, lock, heading, waits->asked_at);
+    line->next = next;
+    line->is_behind_readers = is_read_by(has, waits->asked);
+    add_held(process, seat, thread);
+    free(label);
+    free(name);
 }
 
-static void add_circle_of_readers(struct scene *scene)
+/* Each of these seats waits for the next, and the last for the first. */
+static void add_seats(struct process *process, const unsigned *seat, size_t seats)
+{
+    reports_add(&process->reports, REPORT_CIRCLE, "circle:");
+    for (size_t i = 0; i < seats; i++)
+        if (seat[i] <= SEATS_MOST && seat[(i + 1) % seats] <= SEATS_MOST)
+            add_wait(process, seat[i], seat[(i + 1) % seats]);
+}
+
+static void add_circle_of_readers(struct process *process)
 {
     struct walk *walk = take(sizeof *walk);
-    walk->holdings = &scene->holdings;
+    walk->holdings = &process->state.holdings;
     for (unsigned first = 1; first <= SEATS_MOST; first++) {
         memset(walk->was_there, 0, sizeof walk->was_there);
         walk->path[0] = first;
         walk->length = 1;
         if (comes_round(walk)) {
-            add_walk(scene, walk);
+            add_seats(process, walk->path, walk->length);
             break;
         }
     }
     free(walk);
 }
 
-/* A circle of threads that wait for one another, where the verifier finds one. */
-static void add_circle(struct scene *scene)
-{
-    static const char head[] = "circle:";
-    struct process *process = scene->process;
-    char *told = NULL, *rest;
-    size_t length = 0;
-    FILE *to = open_memstream(&told, &length);
-    if (!to)
-        return;
-    verdict_on(process->run->settings.witness, "circle", process->trace, to);
-    fclose(to);
-    char *line = strtok_r(told, "\n", &rest);
-    if (line && strcmp(line, head) == 0) {
-        reports_add(&process->reports, REPORT_CIRCLE, head);
-        while ((line = strtok_r(NULL, "\n", &rest)) != NULL) {
-            char *whole = notes_whole(&process->notes, line, strlen(line));
-            add_wait(scene, whole);
-            free(whole);
-        }
-    } else {
-        add_circle_of_readers(scene);
-    }
-    free(told);
-}
-
 /* A seat that waited for a lock that it held, by the note of that number. */
-static void add_again(struct scene *scene, size_t number)
+static void add_again(struct process *process, size_t number)
 {
-    const struct notes *notes = &scene->process->notes;
+    const struct notes *notes = &process->notes;
     const struct event *again = &notes->event[number];
     const struct event *thread = thread_of(notes, again->seat, number);
     const char *site = again->site ? again->site : "?:0";
@@ -217,32 +161,24 @@ static void add_again(struct scene *scene, size_t number)
     if (again->seat > SEATS_MOST)
         return;
     char *label = thread_label(thread);
-    reports_add(&scene->process->reports, REPORT_SELF, "a thread waited for a lock that it held itself:")->is_over =
+    reports_add(&process->reports, REPORT_SELF, "a thread waited for a lock that it held itself:")->is_over =
         again->is_over;
     char *heading = say_text(" seat %u%s waited for \"%s\"", again->seat, label, lock);
-    add_line(scene, LINE_WAITS, again->seat, lock, heading, (struct piece){site, (int)strlen(site)});
-    add_held(scene, again->seat, thread);
+    add_line(process, LINE_WAITS, again->seat, lock, heading, (struct piece){site, (int)strlen(site)});
+    add_held(process, again->seat, thread);
     free(label);
 }
 
 void add_circles(struct process *process)
 {
     const struct notes *notes = &process->notes;
-    struct trace_line line;
-    if (!notes->pending && !waits_for_itself(notes))
+    if (!process->has_state || (!notes->pending && !waits_for_itself(notes)))
         return;
-    struct scene *scene = take(sizeof *scene);
-    scene->process = process;
-    if (trace_is_there(process, "a circle can't be shown") && trace_open(&scene->trace, process->trace)) {
-        while (trace_next(&scene->trace, &line))
-            holdings_read(&scene->holdings, &line);
-        if (notes->pending)
-            add_circle(scene);
-        for (size_t i = 0; i < notes->events; i++)
-            if (notes->event[i].kind == EVENT_AGAIN)
-                add_again(scene, i);
-        trace_close(&scene->trace);
-    }
-    holdings_end(&scene->holdings);
-    free(scene);
+    if (notes->pending && process->state.seats > 0)
+        add_seats(process, process->state.seat, process->state.seats);
+    else if (notes->pending)
+        add_circle_of_readers(process);
+    for (size_t i = 0; i < notes->events; i++)
+        if (notes->event[i].kind == EVENT_AGAIN)
+            add_again(process, i);
 }

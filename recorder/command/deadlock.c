@@ -4,7 +4,6 @@
 #include <stdio.h>
 #include <stdlib.h>
 #include <string.h>
-#include <unistd.h>
 
 #include "circle.h"
 #include "follow.h"
@@ -44,9 +43,7 @@ static char *circles_of(struct process *process)
     char *text = NULL;
     size_t length = 0;
     FILE *to = open_memstream(&text, &length);
-    process->trace = say_text("%s/trace.now", process->run->work);
     add_circles(process);
-    unlink(process->trace);
     for (size_t i = 0; to && i < process->reports.count; i++)
         if (is_circle(&process->reports.report[i]))
             report_write(to, &process->reports.report[i], process->run->settings.frames > 1, false);

@@ -105,8 +105,7 @@ void findings_take(struct process *process)
     if (!findings_are_wanted(&run->settings))
         return;
     struct found *found = findings_add(&run->findings, process->name, process->recording->process);
-    if (process->resolved && trace_is_there(process, "its orders aren't known"))
-        orders_read(process, &found->orders);
+    orders_read(process, &found->orders);
     if (process->is_traced && confirm_is_wanted(&run->settings))
         plan_finds_first_locks(process);
     found->notes = process->notes;

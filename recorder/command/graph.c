@@ -10,7 +10,7 @@
 #include "files.h"
 #include "memory.h"
 #include "place_words.h"
-#include "replay.h"
+#include "telling.h"
 #include "usage.h"
 #include "written.h"
 
@@ -60,16 +60,17 @@ void graph_write(FILE *to, const struct order_list *orders)
 }
 
 /* The text for dot. False where it can't be written. */
-static bool write_dot(struct process *process, const char *path)
+static bool write_dot(const struct process *process, const char *path)
 {
     struct order_list orders = {0};
     FILE *to = written_file(path);
-    bool is_good = to && orders_read(process, &orders);
-    if (is_good)
-        graph_write(to, &orders);
+    if (!to)
+        return false;
+    orders_read(process, &orders);
+    graph_write(to, &orders);
     orders_end(&orders);
-    is_good = to && !ferror(to) && is_good;
-    return to && fclose(to) == 0 && is_good;
+    bool is_good = !ferror(to);
+    return fclose(to) == 0 && is_good;
 }
 
 /* Runs dot on the text, and what it writes goes to the file. */
@@ -93,7 +94,7 @@ void draw(struct process *process)
 {
     struct run *run = process->run;
     const char *graph = run->settings.graph;
-    if (!is_asked(graph) || !trace_is_there(process, "its orders aren't drawn"))
+    if (!is_asked(graph) || !process->has_state)
         return;
     const char *dot = strrchr(graph, '.');
     char *file = copy(graph), *text = say_text("%s/dot", run->work);

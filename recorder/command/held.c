@@ -4,12 +4,9 @@
 #include <stdlib.h>
 #include <string.h>
 
-#include "holdings.h"
 #include "memory.h"
 #include "place_words.h"
-#include "replay.h"
 #include "thread_label.h"
-#include "verdict.h"
 
 /* What is told of each seat, and which locks that names. */
 struct scene {
@@ -28,74 +25,33 @@ static char *label_of(const struct notes *notes, unsigned seat)
     return copy("");
 }
 
-/* A line of the seat. The first one says which thread it is. */
-static void add(struct scene *scene, unsigned seat, const char *what, const char *place)
+/* A line of the seat. The first one says which thread it is. What is told there is let go. */
+static void add(struct scene *scene, unsigned seat, char *what, struct piece at)
 {
     const struct notes *notes = &scene->process->notes;
-    char *before = scene->text[seat];
+    char *before = scene->text[seat], *place = copy_bytes(at.at, (size_t)at.length);
     char *label = before ? copy("") : label_of(notes, seat), *told = place_told(notes_site(notes, place));
     scene->text[seat] = say_text("%s seat %u%s %s %s\n", before ? before : "", seat, label, what, told);
     free(told);
     free(label);
+    free(place);
     free(before);
-}
-
-/* `exclusive sleep mutex "NAME" (TYPE) r = 0 @ PLACE`, as the verifier tells what a seat holds. */
-static void read_lock(struct scene *scene, unsigned seat, const char *line)
-{
-    const char *open = strchr(line, '"'), *close = open ? strchr(open + 1, '"') : NULL, *last = strrchr(line, ' ');
-    if (!close || !last)
-        return;
-    char *name = notes_whole(&scene->process->notes, open + 1, (size_t)(close - open - 1));
-    char *what = say_text("holds \"%s\"%s", name, *line == 's' ? " (shared)" : "");
-    ADD(scene->name, scene->names, scene->room) = name;
-    add(scene, seat, what, last + 1);
     free(what);
 }
 
-static void read_locks(struct scene *scene)
+/* What the seat holds, newest first, and what it asks for. */
+static void add_seat(struct scene *scene, unsigned number)
 {
-    struct process *process = scene->process;
-    char *told = NULL, *rest;
-    size_t length = 0;
-    unsigned seat = 0;
-    FILE *to = open_memstream(&told, &length);
-    if (!to)
-        return;
-    verdict_on(process->run->settings.witness, "locks", process->trace, to);
-    fclose(to);
-    for (char *line = strtok_r(told, "\n", &rest); line; line = strtok_r(NULL, "\n", &rest)) {
-        if (strncmp(line, "seat ", 5) == 0)
-            seat = (unsigned)strtoul(line + 5, NULL, 10);
-        else if ((strncmp(line, "exclusive ", 10) == 0 || strncmp(line, "shared ", 7) == 0) && seat <= SEATS_MOST)
-            read_lock(scene, seat, line);
+    const struct notes *notes = &scene->process->notes;
+    const struct seat *seat = &scene->process->state.holdings.seat[number];
+    for (size_t i = seat->count; i > 0; i--) {
+        const struct holding *held = &seat->held[i - 1];
+        const char *name = notes_lock(notes, held->lock)->name;
+        ADD(scene->name, scene->names, scene->room) = copy(name);
+        add(scene, number, say_text("holds \"%s\"%s", name, held->shared ? " (shared)" : ""), held->place);
     }
-    free(told);
-}
-
-/* What seats ask for. */
-static void read_requests(struct scene *scene)
-{
-    struct trace trace;
-    struct trace_line line;
-    struct holdings *holdings = take(sizeof *holdings);
-    if (trace_open(&trace, scene->process->trace)) {
-        while (trace_next(&trace, &line))
-            holdings_read(holdings, &line);
-        for (unsigned seat = 1; seat <= SEATS_MOST; seat++) {
-            const struct seat *asks = &holdings->seat[seat];
-            if (!asks->asked)
-                continue;
-            char *what = say_text("waits for \"%s\"", notes_lock(&scene->process->notes, asks->asked)->name);
-            char *place = copy_bytes(asks->asked_at.at, (size_t)asks->asked_at.length);
-            add(scene, seat, what, place);
-            free(what);
-            free(place);
-        }
-        trace_close(&trace);
-    }
-    holdings_end(holdings);
-    free(holdings);
+    if (seat->asked)
+        add(scene, number, say_text("waits for \"%s\"", notes_lock(notes, seat->asked)->name), seat->asked_at);
 }
 
 /* The name that the thread has now; NULL where the process has no such thread. */
@@ -177,12 +133,12 @@ static void tell_scene(const struct scene *scene)
 
 void tell_held(struct process *process)
 {
-    if (process->run->ending->how != HOW_RUNNING || !trace_is_there(process, "what is held can't be shown"))
+    if (process->run->ending->how != HOW_RUNNING || !process->has_state)
         return;
     struct scene *scene = take(sizeof *scene);
     scene->process = process;
-    read_locks(scene);
-    read_requests(scene);
+    for (unsigned seat = 1; seat <= SEATS_MOST; seat++)
+        add_seat(scene, seat);
     tell_scene(scene);
     end_scene(scene);
     if (!process->stream.answered)

@@ -3,10 +3,10 @@
 #include <stdlib.h>
 #include <string.h>
 
-#include "holdings.h"
 #include "memory.h"
 #include "place_words.h"
 #include "replay.h"
+#include "trace_lines.h"
 #include "verdict.h"
 
 enum { FREE_ALL = 0, FREE_NOT = 3 };
@@ -54,14 +54,15 @@ static char *told_line(const struct process *process, unsigned long number)
 {
     struct trace trace;
     struct trace_line line;
-    struct holdings *holdings = take(sizeof *holdings);
+    struct piece *asked_at = take((SEATS_MOST + 1) * sizeof *asked_at);
     char *text = copy("");
     bool is_open = trace_open(&trace, process->trace);
     while (is_open && trace.number < number && trace_next(&trace, &line))
-        holdings_read(holdings, &line);
+        if (line.word == TRACE_CHECK)
+            asked_at[line.seat] = line.place;
     if (is_open && trace.number == number && number > 0 && line.seat > 0) {
         struct piece name = trace_lock(&trace, line.lock)->name;
-        struct piece at = line.word == TRACE_TRY ? line.place : holdings->seat[line.seat].asked_at;
+        struct piece at = line.word == TRACE_TRY ? line.place : asked_at[line.seat];
         char *place = copy_bytes(at.at ? at.at : "", (size_t)at.length);
         char *told = place_told(notes_site(&process->notes, place));
         free(text);
@@ -70,8 +71,7 @@ static char *told_line(const struct process *process, unsigned long number)
         free(place);
     }
     trace_close(&trace);
-    holdings_end(holdings);
-    free(holdings);
+    free(asked_at);
     return text;
 }
 

@@ -12,7 +12,6 @@
 #include <sys/stat.h>
 #include <unistd.h>
 
-#include "clean.h"
 #include "confirm_from.h"
 #include "files.h"
 #include "inside.h"
@@ -31,6 +30,7 @@
 #include "show.h"
 #include "steered.h"
 #include "usage.h"
+#include "verdict.h"
 #include "workplace.h"
 
 /* One at a time: what replays may have to be built first. Where the folder is another user's, there is no waiting. */
@@ -147,6 +147,15 @@ static char *folder_of(const char *file)
     return folder;
 }
 
+/* Whether the trace in the file is clean, in the verifier's words. The status of `record`. */
+static int tell_clean(const char *witness, const char *trace)
+{
+    if (verdict_on(witness, "clean", trace, stdout) < 126 && fflush(stdout) == 0)
+        return 0;
+    fprintf(stderr, "record: %s: %s can't be read, or %s can't be run\n", trace, trace, witness);
+    return 126;
+}
+
 int main(int count, char **words)
 {
     /* All that is asked for lasts to the end. */
@@ -170,7 +179,7 @@ int main(int count, char **words)
         return 0;
     }
     if (options.clean)
-        return clean_tell(options.settings.witness, options.clean);
+        return tell_clean(options.settings.witness, options.clean);
     interrupts_catch();
     if (!work)
         work = prepare_work();

@@ -22,8 +22,8 @@ struct order_list {
     size_t count, room;
 };
 
-/* Reads them of the trace in the process's file. False where that can't be read. A new list is all zeroes. */
-bool orders_read(struct process *process, struct order_list *orders);
+/* Those that are known of the process. A new list is all zeroes. */
+void orders_read(const struct process *process, struct order_list *orders);
 void orders_end(struct order_list *orders);
 
 #endif

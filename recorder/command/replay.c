@@ -5,7 +5,6 @@
 #include <string.h>
 #include <unistd.h>
 
-#include "clean.h"
 #include "confirm.h"
 #include "files.h"
 #include "follow.h"
@@ -22,7 +21,6 @@ enum { BUFFER_BYTES = 1 << 16 };
 /* What a trace goes to while it is made; what isn't wanted is NULL, or -1. */
 struct tee {
     struct replaying *replaying;
-    struct clean *clean;
     int file;
     bool has_failed; /* the file couldn't be written */
 };
@@ -32,8 +30,6 @@ static ssize_t tee_writes(void *cookie, const char *bytes, size_t length)
     struct tee *tee = cookie;
     if (tee->replaying)
         replaying_takes(tee->replaying, bytes, length);
-    if (tee->clean)
-        clean_read(tee->clean, bytes, length);
     if (tee->file >= 0 && !tee->has_failed)
         tee->has_failed = !write_all(tee->file, bytes, length);
     /* The verifier is told all that can be told it, whatever becomes of the file. */
@@ -56,9 +52,7 @@ static bool resolve_to(
 static bool wants_file(const struct run *run)
 {
     const struct settings *settings = &run->settings;
-    return is_asked(settings->keep) || is_asked(settings->graph) || settings->judge ||
-           learn_is_wanted(settings) || is_asked(settings->html) || is_asked(settings->sarif) || is_asked(settings->json) ||
-           confirm_is_wanted(settings) || run->ending->how == HOW_RUNNING;
+    return is_asked(settings->keep) || settings->judge || learn_is_wanted(settings) || confirm_is_wanted(settings);
 }
 
 static int open_trace(const struct process *process)
@@ -80,23 +74,22 @@ void replay(struct process *process)
 {
     struct run *run = process->run;
     struct replaying replaying;
-    struct clean *clean = take(sizeof *clean);
-    struct tee tee = {&replaying, clean, !process->is_followed && wants_file(run) ? open_trace(process) : -1, false};
+    struct tee tee = {&replaying, !process->is_followed && wants_file(run) ? open_trace(process) : -1, false};
     replaying_begin(&replaying, &run->answers, run->settings.witness);
     process->resolved = resolve_to(run, &process->stream, SILENCE_ALL, &tee, &process->notes);
     process->status = replaying_end(&replaying);
     close_trace(process, &tee, process->resolved);
-    process->clean = clean_answer(clean);
-    free(clean);
     process->reports.notes = &process->notes;
-    reports_read(&process->reports, replaying.told, replaying.told_length);
-    free(replaying.told);
+    reports_read(&process->reports, replaying.told, replaying.reports_length);
+    process->told = replaying.told;
+    process->has_state = state_read(&process->state, replaying.told + replaying.reports_length,
+        replaying.told_length - replaying.reports_length);
 }
 
 static void make_again(struct process *process)
 {
     struct notes notes = {0};
-    struct tee tee = {NULL, NULL, open_trace(process), false};
+    struct tee tee = {NULL, open_trace(process), false};
     bool is_made = tee.file >= 0 && resolve_to(process->run, &process->stream, SILENCE_ALL, &tee, &notes);
     close_trace(process, &tee, is_made);
     notes_end(&notes);
@@ -156,12 +149,12 @@ void replay_with(struct run *run, const struct recording *recording, enum silenc
     char *path = say_text("%s/%s", run->records, recording->name);
     reports->notes = notes ? notes : &none;
     if (stream_open(&stream, path, recording->goes_on)) {
-        struct tee tee = {&replaying, NULL, -1, false};
+        struct tee tee = {&replaying, -1, false};
         replaying_begin(&replaying, &run->answers, run->settings.witness);
         resolve_to(run, &stream, silence, &tee, notes);
         replaying_end(&replaying);
         stream_close(&stream);
-        reports_read(reports, replaying.told, replaying.told_length);
+        reports_read(reports, replaying.told, replaying.reports_length);
         free(replaying.told);
     }
     free(path);

@@ -9,7 +9,7 @@
 #include "brief_run.h"
 #include "usage.h"
 
-enum { NOT_RUN = 126 }; /* the least status of what a shell couldn't run */
+enum { BAD_USAGE = 2, NOT_RUN = 126 }; /* the least status of what a shell couldn't run */
 
 /* The repository of which this is the script that runs the program; NULL where it is none. A text of one's own. */
 static char *repository_of(const char *witness)
@@ -84,7 +84,7 @@ static bool knows(const char *witness, const char *word, const char *line)
 
 void replayer_check(struct settings *settings)
 {
-    const char *witness = settings->witness, *words[] = {NULL, "replay", NULL};
+    const char *witness = settings->witness, *words[] = {NULL, "state", NULL};
     if (!file_is_command(witness))
         fail("%s can't be run, and nothing else replays: nothing was run", witness);
     if (is_trial(settings)) {
@@ -92,8 +92,11 @@ void replayer_check(struct settings *settings)
         return;
     }
     witness = *words = settings->witness;
-    if (brief_run(words, "", false) >= NOT_RUN)
+    int status = brief_run(words, "", false);
+    if (status >= NOT_RUN)
         fail("%s can't be run: nothing was run", witness);
+    if (status == BAD_USAGE)
+        fail("%s doesn't know the word state: nothing was run", witness);
     if (settings->judge && !knows(witness, "migrate", ""))
         fail("%s doesn't know --judge: nothing was run", witness);
 }

@@ -4,6 +4,7 @@
 #include <string.h>
 
 #include "memory.h"
+#include "state.h"
 
 enum { SHORT_BYTES = 1 << 20, ANSWERS_BYTES = 1 << 26, DEATH = 126 };
 
@@ -29,7 +30,7 @@ static void begin(struct replaying *replaying)
     replaying->to = open_memstream(&replaying->told, &replaying->told_length);
     if (!replaying->to)
         return;
-    verdict_begin(&replaying->verdict, replaying->witness, "replay", replaying->to);
+    verdict_begin(&replaying->verdict, replaying->witness, "state", replaying->to);
     verdict_feed(&replaying->verdict, replaying->trace, replaying->length);
 }
 
@@ -106,5 +107,6 @@ int replaying_end(struct replaying *replaying)
     }
     free(replaying->trace);
     replaying->trace = NULL;
+    replaying->reports_length = state_begins(replaying->told, replaying->told_length);
     return status;
 }

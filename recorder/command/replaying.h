@@ -1,5 +1,5 @@
 /*
- * What the verifier tells of a trace by its word `replay`. In a run of many processes most traces are alike: one of which
+ * What the verifier tells of a trace by its word `state`: the reports, and what is known then. In a run of many processes most traces are alike: one of which
  * it was asked before isn't given to it again.
  */
 #ifndef RECORD_REPLAYING_H
@@ -37,7 +37,7 @@ struct replaying {
     bool is_begun;
     FILE *to;
     char *told; /* at its end: the caller's */
-    size_t told_length;
+    size_t told_length, reports_length; /* of all, and of the reports */
 };
 
 void replaying_begin(struct replaying *replaying, struct answers *answers, const char *witness);

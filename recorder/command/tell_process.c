@@ -188,7 +188,9 @@ static void look_for_premises(struct process *process)
 {
     struct run *run = process->run;
     unsigned long releases, rereads;
-    const char *answer = process->clean ? process->clean : "its trace wasn't looked at";
+    struct piece clean = process->state.clean;
+    char *known = clean.at ? copy_bytes(clean.at, (size_t)clean.length) : copy("its trace wasn't looked at");
+    const char *answer = known;
     if (!stream_count(&process->stream, "releases", &releases) || releases > 0)
         answer = "a lock was released by a thread that didn't hold it";
     else if (!stream_count(&process->stream, "rereads", &rereads) || rereads > 0)
@@ -197,6 +199,7 @@ static void look_for_premises(struct process *process)
         answer = "locks that processes share are judged in each process by itself";
     if (strcmp(answer, "clean") != 0 && !run->unclean)
         run->unclean = say_text("%s: %s", process->name, answer);
+    free(known);
 }
 
 static void tell_waits(struct process *process)
@@ -357,6 +360,7 @@ void process_end(struct process *process)
 {
     reports_end(&process->reports);
     notes_end(&process->notes);
-    free(process->clean);
+    state_end(&process->state);
+    free(process->told);
     free(process->trace);
 }

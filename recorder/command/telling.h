@@ -16,6 +16,7 @@
 #include "resolve.h"
 #include "settings.h"
 #include "show.h"
+#include "state.h"
 #include "status.h"
 #include "steered.h"
 #include "stream.h"
@@ -85,7 +86,9 @@ struct process {
     bool resolved;        /* else its trace couldn't be made */
     char *trace;          /* the file that its trace is in, where it is there */
     bool is_traced;       /* it is there */
-    char *clean;          /* what its trace says of that (clean.h) */
+    char *told;           /* what the verifier told, and what it knows: parts of that */
+    struct state state;
+    bool has_state;       /* it was told */
     bool is_followed;     /* it goes on, and only its reports are wanted */
 };
 

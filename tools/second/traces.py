@@ -147,26 +147,89 @@ class Reading:
                 raise BadLine(number, fault) from None
 
 
+def hindrance(line, call, all_held):
+    """Why a line stands against a clean trace; None where it doesn't."""
+    verb, fields = (call[0], call[2]) if call else (line.partition(" ")[0], [])
+    if verb == "bless":
+        return "either order of two types is allowed"
+    if verb == "init" and "d" in fields[2] or verb == "check" and "n" in fields[3] and "d" in fields[3]:
+        return "a second lock of the type is allowed"
+    if verb == "init" and fields[1] == "mtx" and fields[-1] == "Giant":
+        return "the lock is Giant"
+    if verb == "check" and "n" not in fields[3]:
+        return "the request teaches no order"
+    if verb == "try" and not all_held:
+        return "a lock was tried"
+    if verb == "watch" and fields[1] != 1:
+        return "less than everything is watched"
+    return None
+
+
+def is_report(text):
+    return text.startswith(("lock order reversal:", "acquiring duplicate lock of same type: ", "witness exhausted\n"))
+
+
 def shown(word, text, told):
     """What the program writes by the word, and its status. There may be several circles: one that
     was told is judged."""
-    texts = []
+    texts, against = [], []
+    reading = Reading(text)
 
-    def takes(_number, _line, call, verifier):
+    def takes(number, line, call, verifier):
         if call:
             texts.append(getattr(verifier, call[1])(*call[2]) or "")
+        why = hindrance(line, call, reading.all_held)
+        against.extend([f"line {number}: {why}"] if why else [])
 
     try:
-        verifier = Reading(text).read(takes)
+        verifier = reading.read(takes)
     except BadLine as bad:
-        return "".join(texts if word == "replay" else []) + str(bad), 3
+        return "".join(texts if word in ("replay", "state") else []) + str(bad), 3
+    clean = against[0] if against else "reported" if any(map(is_report, texts)) else "clean"
+    if word == "clean":
+        return clean + "\n", int(clean != "clean")
     if word == "replay":
         return "".join(texts), min(verifier.reports, 1)
+    if word == "state":
+        return "".join(texts) + state(verifier, clean, told), min(verifier.reports, 1)
     if word == "graph":
         return graph(verifier), 0
     if word == "locks":
         return locks(verifier), 0
     return (told, int(told != "no circle\n")) if is_circle(verifier, told) else ("another circle, or none", 0)
+
+
+def tabbed(*fields):
+    return "\t".join(map(str, fields)) + "\n"
+
+
+def state(verifier, clean, told):
+    """What is known after the trace, in lines whose fields are parted by tabs."""
+    modes = {"s": "shared", "x": "exclusive"}
+    text = tabbed("clean", clean)
+    for one, other in sorted(verifier.orders.origins):
+        origin = verifier.orders.origins[one, other]
+        text += tabbed("order", verifier.types[one - 1].name, verifier.types[other - 1].name, origin)
+    for seat in range(1, verifier.seats + 1):
+        held = verifier.newest_first(seat)
+        for spin in (True, False):
+            for one in held:
+                if verifier.is_spin(one.lock) == spin:
+                    text += tabbed("held", seat, one.lock, modes[one.mode], one.site)
+        if seat in verifier.pending:
+            asked = verifier.pending[seat]
+            text += tabbed("asks", seat, asked.lock, modes[asked.mode], asked.site)
+    return text + state_circle(verifier, told)
+
+
+def state_circle(verifier, told):
+    """The last line where seats wait in a circle: that which was told, if it is one."""
+    last = told.rstrip("\n").rpartition("\n")[2].split("\t")
+    if last[0] != "circle":
+        return "" if not has_circle(verifier) else "another circle, or none\n"
+    seats = [int(seat) for seat in last[1:]]
+    waits = [awaits(verifier, one, other) for one, other in zip(seats, seats[1:] + seats[:1])]
+    return tabbed("circle", *seats) if seats and all(waits) and seats[0] == min(seats) else "another circle, or none\n"
 
 
 def graph(verifier):

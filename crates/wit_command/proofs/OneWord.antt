@@ -12,7 +12,8 @@ use Rattle.clap.specs.Walk.{Held, Step, trailing, after_flag, after_step, bundle
 use Rattle.clap.specs.Walk.{finished, idle, long_or_other, nothing_held, plain, short_or_plain}
 use Rattle.clap.specs.Walk.{value, walk_from, walked}
 use Rattle.clap.proofs.OnLiterals.{clap_on_literals}
-use Rattle.wit_model.specs.declared.lines.View.TheVariants.{Reports, Graph, Locks, Circle}
+use Rattle.wit_trace.specs.declared.view.View.TheVariants.{Reports, Graph, Locks, Circle, State}
+use Rattle.wit_trace.specs.declared.view.View.TheVariants.{Clean}
 use Rattle.wit_command.specs.declared.command.Command.{Command}
 use Rattle.wit_command.specs.declared.command.Command.TheVariants.{Show, Migrate, Forecast, Grade, Demo}
 use Rattle.wit_command.specs.CommandLine.{asked_alone, bytes_of, command_line, command_named}
@@ -89,44 +90,66 @@ given_is_asked (name ∷ word ∷ third ∷ more) given two e = absurd (omega ar
 
 -- what each word has that asks for something
 pub for_words : (P : Text → Type 0) → P (codes "replay") → P (codes "graph") → P (codes "locks")
-    → P (codes "circle") → P (codes "migrate") → P (codes "forecast") → P (codes "grade")
+    → P (codes "circle") → P (codes "state") → P (codes "clean") → P (codes "migrate")
+    → P (codes "forecast") → P (codes "grade")
     → P (codes "demo") → (word : Text) (what : Command) → command_named word ≡ Some what → P word
-for_words P replay graph locks circle migrate forecast grade demo word what is =
-    go (bytes_eq word (codes "replay")) refl (bytes_eq word (codes "graph")) refl
-    (bytes_eq word (codes "locks")) refl (bytes_eq word (codes "circle")) refl
-    (bytes_eq word (codes "migrate")) refl (bytes_eq word (codes "forecast")) refl
-    (bytes_eq word (codes "grade")) refl (bytes_eq word (codes "demo")) refl is
+for_words P replay graph locks circle state clean migrate forecast grade demo word what is =
+    go (bytes_eq word (codes "replay")) refl
+    (bytes_eq word (codes "graph")) refl
+    (bytes_eq word (codes "locks")) refl
+    (bytes_eq word (codes "circle")) refl
+    (bytes_eq word (codes "state")) refl
+    (bytes_eq word (codes "clean")) refl
+    (bytes_eq word (codes "migrate")) refl
+    (bytes_eq word (codes "forecast")) refl
+    (bytes_eq word (codes "grade")) refl
+    (bytes_eq word (codes "demo")) refl is
   where
     same : (literal : Text) → bytes_eq word literal ≡ true → P literal → P word
     same literal e has = subst P (sym ((bytes_eq-Decides word literal).0 e)) has
 
-    go : (r : Bool) → bytes_eq word (codes "replay") ≡ r → (g : Bool)
-        → bytes_eq word (codes "graph") ≡ g
-        → (l : Bool) → bytes_eq word (codes "locks") ≡ l → (c : Bool)
-        → bytes_eq word (codes "circle") ≡ c
-        → (m : Bool) → bytes_eq word (codes "migrate") ≡ m → (f : Bool)
-        → bytes_eq word (codes "forecast") ≡ f
+    go : (r : Bool) → bytes_eq word (codes "replay") ≡ r
+        → (g : Bool) → bytes_eq word (codes "graph") ≡ g
+        → (l : Bool) → bytes_eq word (codes "locks") ≡ l
+        → (c : Bool) → bytes_eq word (codes "circle") ≡ c
+        → (s : Bool) → bytes_eq word (codes "state") ≡ s
+        → (n : Bool) → bytes_eq word (codes "clean") ≡ n
+        → (m : Bool) → bytes_eq word (codes "migrate") ≡ m
+        → (f : Bool) → bytes_eq word (codes "forecast") ≡ f
         → (t : Bool) → bytes_eq word (codes "grade") ≡ t
         → (d : Bool) → bytes_eq word (codes "demo") ≡ d
-        → (if r then Some (Show Reports) else if g then Some (Show Graph)
-        else if l then Some (Show Locks) else if c then Some (Show Circle)
-        else if m then Some Migrate else if f then Some Forecast else if t then Some Grade else if d then Some Demo else None)
+        → (if r then Some (Show Reports)
+        else if g then Some (Show Graph)
+        else if l then Some (Show Locks)
+        else if c then Some (Show Circle)
+        else if s then Some (Show State)
+        else if n then Some (Show Clean)
+        else if m then Some Migrate
+        else if f then Some Forecast
+        else if t then Some Grade
+        else if d then Some Demo else None)
         ≡ Some what → P word
-    go true at g isg l isl c isc m ism f isf t ist d isd e = same (codes "replay") at replay
-    go false at true isg l isl c isc m ism f isf t ist d isd e = same (codes "graph") isg graph
-    go false at false isg true isl c isc m ism f isf t ist d isd e =
+    go true isr g isg l isl c isc s iss n isn m ism f isf t ist d isd e =
+        same (codes "replay") isr replay
+    go false isr true isg l isl c isc s iss n isn m ism f isf t ist d isd e =
+        same (codes "graph") isg graph
+    go false isr false isg true isl c isc s iss n isn m ism f isf t ist d isd e =
         same (codes "locks") isl locks
-    go false at false isg false isl true isc m ism f isf t ist d isd e =
+    go false isr false isg false isl true isc s iss n isn m ism f isf t ist d isd e =
         same (codes "circle") isc circle
-    go false at false isg false isl false isc true ism f isf t ist d isd e =
+    go false isr false isg false isl false isc true iss n isn m ism f isf t ist d isd e =
+        same (codes "state") iss state
+    go false isr false isg false isl false isc false iss true isn m ism f isf t ist d isd e =
+        same (codes "clean") isn clean
+    go false isr false isg false isl false isc false iss false isn true ism f isf t ist d isd e =
         same (codes "migrate") ism migrate
-    go false at false isg false isl false isc false ism true isf t ist d isd e =
+    go false isr false isg false isl false isc false iss false isn false ism true isf t ist d isd e =
         same (codes "forecast") isf forecast
-    go false at false isg false isl false isc false ism false isf true ist d isd e =
+    go false isr false isg false isl false isc false iss false isn false ism false isf true ist d isd e =
         same (codes "grade") ist grade
-    go false at false isg false isl false isc false ism false isf false ist true isd e =
+    go false isr false isg false isl false isc false iss false isn false ism false isf false ist true isd e =
         same (codes "demo") isd demo
-    go false at false isg false isl false isc false ism false isf false ist false isd e = cc
+    go false isr false isg false isl false isc false iss false isn false ism false isf false ist false isd e = cc
 
 -- clap gives a text where the only word asks for something
 pub word_is_given : (words : List Text) (word : Text) (what : Command) → only_word words ≡ Some word
@@ -139,7 +162,7 @@ word_is_given (name ∷ only ∷ []) word what e is =
     (same_text _ _ e)
     ∙ ap (λ b. if b then None else Some word)
     (for_words (λ w. bytes_eq w (45 ∷ 45 ∷ []) ≡ false) refl refl refl refl refl refl
-    refl refl word what is)
+    refl refl refl refl word what is)
 word_is_given (name ∷ only ∷ third ∷ more) word what e is = cc
 
 literal_passes : (name word : Text) (what : Command) → command_named word ≡ Some what
@@ -147,7 +170,7 @@ literal_passes : (name word : Text) (what : Command) → command_named word ≡ 
 unfolding clap_on_literals
 literal_passes name word what is =
     for_words (λ w. takes command_line (name ∷ w ∷ []) ≡ true) refl refl refl refl refl refl
-    refl refl word what is
+    refl refl refl refl word what is
 
 -- clap accepts a command line whose only word asks for something
 pub word_passes : (words : List Text) (word : Text) (what : Command) → only_word words ≡ Some word
@@ -176,7 +199,8 @@ word_is_text : (word : Text) (what : Command) → command_named word ≡ Some wh
 unfolding clap_on_literals
 word_is_text word what is =
     for_words IsUtf8 (codes "replay", (refl, refl)) (codes "graph", (refl, refl))
-    (codes "locks", (refl, refl)) (codes "circle", (refl, refl)) (codes "migrate", (refl, refl))
+    (codes "locks", (refl, refl)) (codes "circle", (refl, refl)) (codes "state", (refl, refl))
+    (codes "clean", (refl, refl)) (codes "migrate", (refl, refl))
     (codes "forecast", (refl, refl)) (codes "grade", (refl, refl)) (codes "demo", (refl, refl))
     word what is
 

@@ -4,7 +4,8 @@ use Rattle.std.specs.Str.{bytes_eq}
 use Rattle.std.specs.Global.{Vec}
 use Rattle.clap.specs.Words.{App, Text, new_app, new_rule, with_rule}
 use Rattle.clap.specs.declared.builder.action.ArgAction.TheVariants.{Set}
-use Rattle.wit_model.specs.declared.lines.View.TheVariants.{Reports, Graph, Locks, Circle}
+use Rattle.wit_trace.specs.declared.view.View.TheVariants.{Reports, Graph, Locks, Circle, State}
+use Rattle.wit_trace.specs.declared.view.View.TheVariants.{Clean}
 use Rattle.wit_command.specs.declared.command.Command.{Command}
 use Rattle.wit_command.specs.declared.command.Command.TheVariants.{Show, Migrate, Grade, Demo}
 use Rattle.wit_command.specs.declared.command.Command.TheVariants.{Forecast, Import}
@@ -25,6 +26,8 @@ command_named word =
     else if bytes_eq word (codes "graph") then Some (Show Graph)
     else if bytes_eq word (codes "locks") then Some (Show Locks)
     else if bytes_eq word (codes "circle") then Some (Show Circle)
+    else if bytes_eq word (codes "state") then Some (Show State)
+    else if bytes_eq word (codes "clean") then Some (Show Clean)
     else if bytes_eq word (codes "migrate") then Some Migrate
     else if bytes_eq word (codes "forecast") then Some Forecast
     else if bytes_eq word (codes "grade") then Some Grade

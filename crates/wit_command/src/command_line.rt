@@ -14,7 +14,7 @@ use clap::{Arg, ArgAction, Error};
 use std::alloc::{AllocError, Global};
 use std::convert::AsStr;
 use std::str;
-use wit_model::View;
+use wit_trace::View;
 
 /// What these words ask for, which stand behind the program's name: `None` where they aren't
 /// exactly one word that says it, or `import` and a source, behind which the options of an import of
@@ -203,6 +203,8 @@ fn named_command(word: &str) -> Option<Command>
         "graph" => Some(Command::Show(View::Graph)),
         "locks" => Some(Command::Show(View::Locks)),
         "circle" => Some(Command::Show(View::Circle)),
+        "state" => Some(Command::Show(View::State)),
+        "clean" => Some(Command::Show(View::Clean)),
         "migrate" => Some(Command::Migrate),
         "forecast" => Some(Command::Forecast),
         "grade" => Some(Command::Grade),

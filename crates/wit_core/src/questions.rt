@@ -22,13 +22,6 @@ impl Verifier {
         self.seats.is_seat(seat)
     }
 
-    // What a seat has asked for.
-    pub(crate) fn request(&self, seat: SeatNo) -> Option<Request>
-        ensures { result ≡ (seat_at (state_of self.now) seat.0).pending }
-    {
-        self.seats.pending(seat)
-    }
-
     // What a seat that there is has asked for.
     fn request_of(&self, seat: SeatNo) -> Option<Request>
         requires { is_seat (state_of self.now) seat.0 ≡ true }

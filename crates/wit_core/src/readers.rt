@@ -19,7 +19,7 @@ ghost use Rattle.wit_core.specs.Numbered.{lock_name, lock_type, type_name, type_
 
 use crate::verifier::Verifier;
 use wit_known::is_type;
-use wit_model::{Class, Fault, FileNo, Instance, LockNo, Mode, Origin, SeatNo, TypeNo};
+use wit_model::{Class, Fault, FileNo, Instance, LockNo, Mode, Origin, Request, SeatNo, TypeNo};
 use wit_waiting::Chunked;
 
 // What the seats hold; `None` for a seat that there is not.
@@ -38,6 +38,13 @@ impl Verifier {
         ensures within { IsNumber MOST_TYPES result }
     {
         self.limits.types() as u16
+    }
+
+    /// What a seat has asked for: from its accepted `check` to its `note` or `give_up`.
+    pub fn request(&self, seat: SeatNo) -> Option<Request>
+        ensures { result ≡ (seat_at (state_of self.now) seat.0).pending }
+    {
+        self.seats.pending(seat)
     }
 
     /// The lock that a seat has asked for, and the mode: from its accepted `check` to its `note` or

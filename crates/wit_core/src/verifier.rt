@@ -1,6 +1,6 @@
 //! The verifier of lock orders.
 
-ghost use Rattle.std.specs.Prelude.{◌≡◌, None, reverse, IfOk, IfErr, IfSome, Ok, true};
+ghost use Rattle.std.specs.Prelude.{◌≡◌, None, reverse, IfOk, IfErr, IfSome, Ok, true, length, nat_lt};
 ghost use Rattle.wit_model.specs.Rules.Names.{is_file_name};
 ghost use Rattle.wit_model.specs.declared.profiles.Profile.TheVariants.{Plain, AllHeld};
 ghost use Rattle.wit_model.specs.Rules.Clean.{CleanMeansNoCircle};
@@ -186,6 +186,20 @@ impl Verifier {
         ensures apart { CleanMeansNoCircle self.now }
     {
         self.log.entries()
+    }
+
+    /// Which held locks a request is compared with.
+    pub fn profile(&self) -> Profile
+        ensures { result ≡ self.now.start.profile }
+    {
+        self.profile
+    }
+
+    /// Whether any pair of type names may be taken in either order.
+    pub fn blesses(&self) -> bool
+        ensures { result ≡ nat_lt 0 (length self.now.start.blessed) }
+    {
+        self.known.names().blesses()
     }
 
     /// How many reports the log has.

@@ -3,11 +3,11 @@ use Rattle.std.specs.Prelude.{ℕ, ◌≡◌, ◌≤◌, ◌⊎◌, true, List, 
 use Rattle.std.specs.Prelude.{Some, codes, string_bytes}
 use Rattle.std.specs.Global.{Vec}
 use Rattle.wit_model.specs.declared.lines.Cause.{Cause}
-use Rattle.wit_model.specs.declared.lines.View.TheVariants.{Circle}
 use Rattle.wit_model.specs.Trace.Moving.{with_feeds}
 use Rattle.wit_model.specs.Trace.Output.{bad_text}
 use Rattle.wit_stream.specs.declared.summary.Summary.{Summary}
 use Rattle.wit_trace.specs.Replays.{ShowsTrace}
+use Rattle.wit_trace.specs.declared.view.View.TheVariants.{Circle}
 use Rattle.wit_forecast.specs.Owners.{own, Begins}
 use Rattle.wit_forecast.specs.declared.outcomes.Outcome.{Outcome}
 use Rattle.wit_forecast.specs.declared.outcomes.Outcome.TheVariants.{Hangs, Meets, Alone}

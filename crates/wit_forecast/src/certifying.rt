@@ -7,8 +7,7 @@ ghost use Rattle.wit_forecast.specs.Forecasts.{lines_in, EndsInCircle, IsSchedul
 use crate::owners::all_begin;
 use crate::reading::Trace;
 use std::alloc::{AllocError, Global};
-use wit_model::View;
-use wit_trace::replay;
+use wit_trace::{View, replay};
 
 /// The text of a schedule of a trace, of which so many lines are the prelude: these chosen lines after
 /// it. `None` where they don't reorder the trace, or don't end in a circle.

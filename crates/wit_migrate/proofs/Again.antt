@@ -4,8 +4,6 @@ use Rattle.std.proofs.Common.{[], ◌∷◌, ◌++◌, Option, None, Result, Ok,
 use Rattle.std.proofs.Common.{ap, ◌∙◌, subst, append-nil}
 use Rattle.std.specs.Prelude.{IfOk}
 use Rattle.std.proofs.lemmas.List.Elements.{All-nil, All-head, All-tail}
-use Rattle.wit_model.specs.declared.lines.View.{View}
-use Rattle.wit_model.specs.declared.lines.View.TheVariants.{Reports, Graph, Locks, Circle}
 use Rattle.wit_model.specs.Rules.State.{Story}
 use Rattle.wit_model.specs.World.Scenes.{Scene}
 use Rattle.wit_model.specs.Trace.Moving.{Moving, Unmoved, Keeping, Moved, Written, MovingOutcome}
@@ -18,14 +16,18 @@ use Rattle.wit_model.specs.Trace.Moving as moving
 use Rattle.wit_model.specs.Trace.Output.{Prelude, Progress, Reading, Stepping, BadLine, LineCall}
 use Rattle.wit_model.specs.Trace.Output.{Logs, LogsAt, Asserts, Warns, Steps, NoCall, call_of, calls}
 use Rattle.wit_model.specs.Trace.Output.{is_prelude, is_profile, empty_prelude, log_limit, course_from}
-use Rattle.wit_model.specs.Trace.Output.{Course, IsLast, IsShown, summed}
+use Rattle.wit_model.specs.Trace.Output.{Course, summed}
 use Rattle.wit_model.specs.Trace.Output as output
 use Rattle.wit_model.proofs.Moved.Preludes.{tells-same}
 use Rattle.wit_stream.specs.Text.{text, text_of, HasNoFeed}
 use Rattle.wit_stream.specs.declared.summary.Summary.{Summary}
 use Rattle.wit_stream.proofs.TextLemmas.{text_of-line}
 use Rattle.wit_trace.specs.Replays.{IsWritten, total}
-use Rattle.wit_migrate.specs.Again.{SaysTheSame, WritesTheSame}
+use Rattle.wit_trace.specs.Shown.{IsLastOf, IsShownAtEnd}
+use Rattle.wit_trace.specs.declared.view.View.{View}
+use Rattle.wit_trace.specs.declared.view.View.TheVariants.{Reports, Graph, Locks, Circle, State}
+use Rattle.wit_trace.specs.declared.view.View.TheVariants.{Clean}
+use Rattle.wit_migrate.specs.Again.{SaysTheSame, ShowsNoCircle, WritesTheSame}
 use Rattle.wit_migrate.specs.Migrates.{Migrates}
 use Rattle.wit_stream.specs.Stream.{WritesOutput}
 use Rattle.wit_migrate.proofs.AddedLines.{ArePlain}
@@ -42,18 +44,21 @@ text-again (line ∷ lines) plain =
 -- ---- what is shown of both
 
 -- what is shown at the end, where it is no circle
-last-again : (view : View) (s : Story) (x : Scene) (n : ℕ) (bytes : List ℕ) (circle : Bool)
-    → (view ≡ Circle → ⊥) → x.story ≡ s → IsLast view (Reading s n) None bytes circle
-    → IsLast view (Stepping x n) None bytes circle
-last-again Reports s x n bytes circle other same last = last
-last-again Graph s x n bytes circle other same last =
-    subst (λ y. output.IsViewOf Graph y (λ i j. Unit {0}) bytes circle) (sym same) last
-last-again Locks s x n bytes circle other same last =
-    subst (λ y. output.IsViewOf Locks y (λ i j. Unit {0}) bytes circle) (sym same) last
-last-again Circle s x n bytes circle other same last = absurd (other refl)
+last-again : (view : View) (s : Story) (x : Scene) (n : ℕ) (bytes : List ℕ) (found : Bool)
+    → ShowsNoCircle view → x.story ≡ s → IsLastOf view (Reading s n) None bytes found
+    → IsLastOf view (Stepping x n) None bytes found
+last-again Reports s x n bytes found other same last = last
+last-again Graph s x n bytes found other same last =
+    subst (λ y. IsShownAtEnd Graph y (λ i j. Unit {0}) bytes found) (sym same) last
+last-again Locks s x n bytes found other same last =
+    subst (λ y. IsShownAtEnd Locks y (λ i j. Unit {0}) bytes found) (sym same) last
+last-again Circle s x n bytes found other same last = absurd other
+last-again State s x n bytes found other same last = absurd other
+last-again Clean s x n bytes found other same last =
+    subst (λ y. IsShownAtEnd Clean y (λ i j. Unit {0}) bytes found) (sym same) last
 
 written-again : (view : View) (told : List ℕ) (s : Story) (x : Scene) (n : ℕ) (bytes : List ℕ)
-    (summary : Summary) → (view ≡ Circle → ⊥) → x.story ≡ s
+    (summary : Summary) → ShowsNoCircle view → x.story ≡ s
     → IsWritten view (record { text = told; reached = Reading s n; bad = None }) bytes summary
     → IsWritten view (record { text = told; reached = Stepping x n; bad = None }) bytes summary
 written-again view told s x n bytes summary other same w = record {
@@ -66,7 +71,7 @@ written-again view told s x n bytes summary other same w = record {
 }
 
 shown-again : (lines moved : List (List ℕ)) (t : TellsTheSame lines moved) (view : View)
-    (bytes : List ℕ) (summary : Summary) → (view ≡ Circle → ⊥)
+    (bytes : List ℕ) (summary : Summary) → ShowsNoCircle view
     → IsWritten view (course_from output.Unstarted 1 lines []) bytes summary
     → IsWritten view (course_from output.Unstarted 1 moved []) bytes summary
 shown-again lines moved t view bytes summary other w =

@@ -107,7 +107,12 @@ pub fn type_words(verifier: &Verifier, number: TypeNo) -> &str
     }
 }
 
-fn put_origin(
+/// Adds where an order comes from: the place as `FILE:LINE`, `listed` or `defined`; nothing of an order
+/// that there isn't.
+///
+/// # Errors
+/// Want of memory alone.
+pub fn put_origin(
     text: &mut String,
     alloc: Global,
     verifier: &Verifier,

@@ -1,6 +1,6 @@
 //! The table of names.
 
-ghost use Rattle.std.specs.Prelude.{◌≡◌, ◌≤◌, ◌<◌, ◌+◌, ◌-◌, true, false, length};
+ghost use Rattle.std.specs.Prelude.{◌≡◌, ◌≤◌, ◌<◌, ◌+◌, ◌-◌, true, false, length, nat_lt};
 ghost use Rattle.std.specs.Prelude.{is_some, IfSome, IfOk, IfErr, OnOk, OnErr, Some, Ok};
 ghost use Rattle.std.specs.List.{IsDistinct};
 ghost use Rattle.std.specs.Str.{bytes_eq};
@@ -229,5 +229,12 @@ impl Table {
         ensures symmetric { result ≡ are_blessed b.now a.now self.now.blessed }
     {
         is_blessed(&self.blessed, a, b)
+    }
+
+    /// Whether any pair of names was blessed.
+    pub fn blesses(&self) -> bool
+        ensures { result ≡ nat_lt 0 (length self.now.blessed) }
+    {
+        !self.blessed.is_empty()
     }
 }

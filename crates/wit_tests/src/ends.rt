@@ -6,9 +6,9 @@ use crate::traces::{
 };
 use std::alloc::{AllocError, Global};
 use std::test::Fail;
-use wit_model::{Cause, View};
+use wit_model::Cause;
 use wit_stream::{ReplayError, Summary};
-use wit_trace::{BAD_TRACE, FAILED, NOTHING_REPORTED, REPORTED};
+use wit_trace::{BAD_TRACE, FAILED, NOTHING_REPORTED, REPORTED, View};
 
 /// Three mutexes whose order is learnt in two steps, and the last and the first in the other order.
 const THROUGH_A_PATH: &str = r#"init 1 mtx - "a" "A"

@@ -5,7 +5,7 @@ use crate::traces::{BOTH_ORDERS, BOTH_ORDERS_REPORT, HEADER, replayed_through};
 use std::alloc::Global;
 use std::cell::Cell;
 use std::test::Fail;
-use wit_model::View;
+use wit_trace::View;
 
 /// The first seat of `BOTH_ORDERS` asserts that it has the first mutex.
 const ASSERTION: &str = "assert 1 1 l\n";

@@ -4,7 +4,8 @@ use crate::traces::{HEADER, replayed};
 use std::alloc::{AllocError, Global};
 use std::test::Fail;
 use wit_core::Verifier;
-use wit_model::{Class, Limits, LockFlags, SeatNo, View};
+use wit_model::{Class, Limits, LockFlags, SeatNo};
+use wit_trace::View;
 
 /// Makes a verifier of some megabytes and a lock in it, and drops them. Whether it took a lock.
 fn is_made(alloc: Global, limits: Limits) -> Result<bool, Fail> {

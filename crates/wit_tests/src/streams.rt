@@ -4,7 +4,8 @@ use crate::fakes::{Drip, Funnel};
 use crate::traces::{HEADER, replayed, replayed_through};
 use std::alloc::{AllocError, Global};
 use std::test::Fail;
-use wit_model::{Cause, View};
+use wit_model::Cause;
+use wit_trace::View;
 
 /// What is taken of a stream, what is left of it, the output, and the bad line.
 type Stream = (

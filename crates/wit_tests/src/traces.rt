@@ -2,9 +2,8 @@
 
 use std::alloc::Global;
 use std::io::{BufRead, Write};
-use wit_model::View;
 use wit_stream::{Failures, ReplayError, Summary};
-use wit_trace::{replay, replay_through, status_of};
+use wit_trace::{View, replay, replay_through, status_of};
 
 pub const HEADER: &str = "witness-trace 1 seats 2 types 8 locks 16 chunks 4\n";
 

@@ -5,7 +5,6 @@ use Rattle.std.specs.Global.{Vec}
 use Rattle.std.specs.Result.{IsErrAnd}
 use Rattle.std.proofs.lemmas.Bool.{le-ltb}
 use Rattle.wit_model.specs.declared.lines.Line.{Line}
-use Rattle.wit_model.specs.declared.lines.View.{View}
 use Rattle.wit_model.specs.Rules.State.{Story}
 use Rattle.wit_model.specs.Trace.LineCalls as model
 use Rattle.wit_model.specs.Trace.Output as output
@@ -15,6 +14,8 @@ use Rattle.wit_fields.specs.declared.errors.LineError.TheVariants.{Bad, Memory}
 use Rattle.wit_stream.specs.declared.machine.Step.{Step}
 use Rattle.wit_stream.specs.declared.machine.Step.TheVariants as step
 use Rattle.wit_stream.specs.declared.summary.Summary.{Summary}
+use Rattle.wit_trace.specs.Shown.{shown_of}
+use Rattle.wit_trace.specs.declared.view.View.{View}
 use Rattle.wit_trace.specs.Driven.{Drives, IsRemark, read_at}
 use Rattle.wit_trace.specs.Replays.{EndsFor, FailsFor, GoesAsDue, IsRead, IsWritten}
 use Rattle.wit_trace.specs.Replays.{Remarks, allowed, allowed_from, progress}
@@ -35,7 +36,7 @@ passed due old new e (Err x) fails is = subst (FailsFor due old new) (sym is) fa
 pub read_told : (view : View) (p q : output.Progress) (n : ℕ) (bytes : List ℕ)
     (r : Result (Vec ℕ) LineError) (told : Vec ℕ) (text : List ℕ)
     → output.reached p n bytes ≡ Ok p → GoesAsDue (output.outcome p n bytes) p q r → r ≡ Ok told
-    → text ≡ output.shown_by view told.items → IsRead view p n bytes q text step.Goes
+    → text ≡ shown_of view told.items → IsRead view p n bytes q text step.Goes
 read_told view p q n bytes r told text stays passes is shows = (
   line_told view p p q n bytes r told text stays passes is shows,
   told_one p q n bytes r passes told is,

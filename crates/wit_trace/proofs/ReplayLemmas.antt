@@ -14,10 +14,10 @@ use Rattle.wit_model.specs.declared.lines.Cause.TheVariants as why
 use Rattle.wit_model.specs.Rules.Start.{start_fault}
 use Rattle.wit_model.specs.Trace.Output as output
 use Rattle.wit_stream.specs.Machine.{BreaksAt, first_of}
+use Rattle.wit_trace.specs.declared.view.View.{View}
 use Rattle.wit_trace.specs.Replays.{KeepsTotal, StandsAsDue, IsWritten, ShowsFrom, progress}
 use Rattle.wit_trace.specs.Replays.{progress_of, total}
 use Rattle.wit_stream.specs.Stream.{ReadingGoesOn, OutputFrom, ReadsToEnd, WritesLines}
-use Rattle.wit_model.specs.declared.lines.View.{View}
 use Rattle.wit_trace.specs.declared.replaying.Replaying.{Replaying}
 use Rattle.wit_trace.specs.declared.replaying.Progress.{Progress}
 use Rattle.wit_trace.specs.declared.replaying.Progress.TheVariants.{Unstarted}
@@ -176,7 +176,7 @@ replays view =
 
 -- it begins before the header
 abbrev begin : View → Replaying
-begin view = record { view = view; progress = Unstarted }
+begin view = record { view = view; progress = Unstarted; against = 0 }
 
 shown_on : (view : View) (lines text : List ℕ)
     → ReadingGoesOn (replays view) (begin view) lines text

@@ -11,8 +11,8 @@ use Rattle.wit_model.specs.Trace.Output as output
 use Rattle.wit_model.specs.declared.lines.Version.{Version}
 use Rattle.wit_fields.specs.declared.errors.LineError.{LineError}
 use Rattle.wit_fields.specs.declared.errors.LineError.TheVariants.{Bad, Memory}
-use Rattle.wit_model.specs.declared.lines.View.{View}
 use Rattle.wit_stream.specs.declared.machine.Step.{Step}
+use Rattle.wit_trace.specs.declared.view.View.{View}
 use Rattle.wit_trace.specs.Replays.{EndsFor, GoesAsDue, reports_told}
 use Rattle.std.specs.Global.{Vec}
 use Rattle.wit_trace.proofs.CountLemmas.{keeps_reports, CountsOne, calls_one, calls_in_one}

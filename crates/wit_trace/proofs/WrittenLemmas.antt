@@ -12,8 +12,10 @@ use Rattle.wit_stream.specs.Machine.{Follows}
 use Rattle.wit_trace.specs.Replays.{EndsFor, GoesOnWith, IsBadFor, allowed_from}
 use Rattle.wit_trace.specs.Replays.{GoesAsDue, KeepsTotal, StandsAsDue, IsWritten}
 use Rattle.wit_trace.specs.Replays.{total}
-use Rattle.wit_model.specs.declared.lines.View.{View}
-use Rattle.wit_model.specs.declared.lines.View.TheVariants.{Reports, Graph, Locks, Circle}
+use Rattle.wit_trace.specs.Shown.{shown_of, IsShown}
+use Rattle.wit_trace.specs.declared.view.View.{View}
+use Rattle.wit_trace.specs.declared.view.View.TheVariants.{Reports, Graph, Locks, Circle, State}
+use Rattle.wit_trace.specs.declared.view.View.TheVariants.{Clean}
 use Rattle.wit_stream.specs.declared.machine.Step.{Step}
 use Rattle.wit_stream.specs.declared.machine.Step.TheVariants as step
 use Rattle.wit_stream.specs.declared.summary.Summary.{Summary}
@@ -38,28 +40,32 @@ short_line p q n bytes r short passes = rw (le-ltb LONGEST (length bytes) short)
 
 -- ---- what is shown
 
-pub shown_none : (view : View) → output.shown_by view [] ≡ []
+pub shown_none : (view : View) → shown_of view [] ≡ []
 shown_none Reports = refl
 shown_none Graph = refl
 shown_none Locks = refl
 shown_none Circle = refl
+shown_none State = refl
+shown_none Clean = refl
 
-shown_append : (view : View) (a b : List ℕ) → output.shown_by view (a ++ b)
-    ≡ output.shown_by view a ++ output.shown_by view b
+shown_append : (view : View) (a b : List ℕ) → shown_of view (a ++ b)
+    ≡ shown_of view a ++ shown_of view b
 shown_append Reports a b = refl
 shown_append Graph a b = refl
 shown_append Locks a b = refl
 shown_append Circle a b = refl
+shown_append State a b = refl
+shown_append Clean a b = refl
 
 -- a text before what follows
 shown_before : (view : View) (told text more : List ℕ) (c : output.Course) (circle : Bool)
-    → text ≡ output.shown_by view told → output.IsShown view c more circle
-    → output.IsShown view (output.text_before told c) (text ++ more) circle
+    → text ≡ shown_of view told → IsShown view c more circle
+    → IsShown view (output.text_before told c) (text ++ more) circle
 shown_before view told text more c circle is h = record {
   last = h.last;
   parts =
       ap₂ (λ a b. a ++ b) is h.parts
-      ∙ (sym (append_assoc (output.shown_by view told) (output.shown_by view c.text) h.last)
+      ∙ (sym (append_assoc (shown_of view told) (shown_of view c.text) h.last)
       ∙ ap (λ (l : List ℕ). l ++ h.last) (sym (shown_append view told c.text)));
   ends = h.ends;
 }
@@ -82,7 +88,7 @@ bad_written view p bad text summary texts sums circle = record {
 -- a line's text, and what follows it
 told_after : (view : View) (w : output.Outcome) (p q : output.Progress) (n : ℕ) (raw text : List ℕ)
     (next : output.Progress → output.Course) (more : List ℕ) (summary : Summary)
-    → GoesOnWith w q raw → text ≡ output.shown_by view raw
+    → GoesOnWith w q raw → text ≡ shown_of view raw
     → IsWritten view (next q) more summary
     → IsWritten view (output.course_after p n w next) (text ++ more) summary
 told_after view (output.Bad why) p q n raw text next more summary goes is written = elim goes [ ]
@@ -91,14 +97,14 @@ told_after view (output.Goes to said) p q n raw text next more summary goes is w
     (text ++ more) summary) goes.0
     (record {
       is_shown = shown_before view said text more (next q) summary.circle
-          (is ∙ ap (output.shown_by view) goes.1) written.is_shown;
+          (is ∙ ap (shown_of view) goes.1) written.is_shown;
       summed = written.summed;
     })
 
 pub line_told : (view : View) (from p q : output.Progress) (n : ℕ) (line : List ℕ)
     (r : Result (Vec ℕ) LineError) (raw : Vec ℕ) (text : List ℕ) → output.reached from n line ≡ Ok p
     → GoesAsDue (output.outcome p n line) p q r → r ≡ Ok raw
-    → text ≡ output.shown_by view raw.items
+    → text ≡ shown_of view raw.items
     → (lines : List (List ℕ)) (tail more : List ℕ) (summary : Summary)
     → IsWritten view (output.course_from q (n + 1) lines tail) more summary
     → IsWritten view (output.course_from from n (line ∷ lines) tail) (text ++ more) summary

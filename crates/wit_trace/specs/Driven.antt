@@ -7,7 +7,6 @@ use Rattle.wit_model.specs.declared.assertions.AssertAnswer.{AssertAnswer}
 use Rattle.wit_model.specs.declared.faults.Fault.{Fault}
 use Rattle.wit_model.specs.declared.lines.Cause.TheVariants as why
 use Rattle.wit_model.specs.declared.lines.Line.{Line}
-use Rattle.wit_model.specs.declared.lines.View.{View}
 use Rattle.wit_model.specs.declared.locks.FileNo.{FileNo}
 use Rattle.wit_model.specs.declared.locks.Instance.{Instance}
 use Rattle.wit_model.specs.Rules.Assertions.{step_assert}
@@ -22,6 +21,8 @@ use Rattle.wit_model.specs.World.Shown.{WaitsIn}
 use Rattle.wit_fields.specs.declared.errors.LineError.{LineError}
 use Rattle.wit_trace.specs.LineCalls.{HasNumber, Keeps, NumbersFile, at_number, file_named}
 use Rattle.wit_trace.specs.Replays.{FailsFor, KeepsTotal}
+use Rattle.wit_trace.specs.Shown.{IsLastOf, IsShownAtEnd}
+use Rattle.wit_trace.specs.declared.view.View.{View}
 
 -- the file that a line names has this number, with which its call becomes what it should become; or
 -- the file gets none
@@ -77,9 +78,9 @@ pub record Drives (s : Story) (reading : ℕ → output.Progress)
       → HasNumber (Keeps s) (file_named c) f → due m c ≡ due m (at_number c f.0)
   -- a line that makes no call is bad
   pub none : (m : ℕ) → due m model.NoCall ≡ output.Bad why.Syntax
-  -- what a view shows at the end
-  pub last : (view : View) (m : ℕ) (text : List ℕ) (circle : Bool)
-      → output.IsViewOf view s waits text circle → output.IsLast view (reading m) None text circle
+  -- what is shown at the end
+  pub last : (view : View) (m : ℕ) (text : List ℕ) (found : Bool)
+      → IsShownAtEnd view s waits text found → IsLastOf view (reading m) None text found
 
 -- ---- the file of a line gets its number
 
@@ -143,7 +144,7 @@ drives_verifier s = record {
   remarks = remark_at s;
   numbered = λ m c f has. calls_numbered s s c f (named_again s (file_named c) f has) m;
   none = λ m. refl;
-  last = λ view m text circle is. is;
+  last = λ view m text found is. is;
 }
 
 scene_at : (s : Scene) (due : output.Outcome)
@@ -176,5 +177,5 @@ drives_world s = record {
   numbered = λ m c f has.
       calls_in_numbered s s c f (named_again s.story (file_named c) f has) refl m;
   none = λ m. refl;
-  last = λ view m text circle is. is;
+  last = λ view m text found is. is;
 }

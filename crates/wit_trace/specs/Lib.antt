@@ -2,4 +2,5 @@ pub mod Driven
 pub mod LineCalls
 pub mod Outputs
 pub mod Replays
+pub mod Shown
 pub mod Status

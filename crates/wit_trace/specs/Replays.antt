@@ -3,7 +3,6 @@ use Rattle.std.specs.Prelude.{Bool, not, ◌||◌, ℕ, ◌+◌, ◌<◌, ◌≤
 use Rattle.std.specs.Prelude.{None, Some, Result, Ok, Err, false, unwrap_or}
 use Rattle.std.specs.Global.{Vec}
 use Rattle.wit_model.specs.declared.lines.Cause.{Cause}
-use Rattle.wit_model.specs.declared.lines.View.{View}
 use Rattle.wit_model.specs.declared.faults.Fault.{Fault}
 use Rattle.wit_model.specs.declared.lines.Cause.TheVariants as why
 use Rattle.wit_model.specs.Rules.Numbers.{with_number}
@@ -15,6 +14,8 @@ use Rattle.wit_fields.specs.declared.errors.LineError.TheVariants.{Bad, Memory}
 use Rattle.wit_grammar.specs.declared.parse.TheConstants.{LONGEST}
 use Rattle.wit_stream.specs.Machine.{Follows}
 use Rattle.wit_stream.specs.Text.{text_of}
+use Rattle.wit_trace.specs.Shown.{IsShown}
+use Rattle.wit_trace.specs.declared.view.View.{View}
 use Rattle.wit_trace.specs.declared.replaying.prelude.Prelude.{Prelude}
 use Rattle.wit_trace.specs.declared.replaying.Replaying.{Replaying}
 use Rattle.wit_trace.specs.declared.replaying.Progress.{Progress}
@@ -53,7 +54,7 @@ total s = record { calls = s.calls; reports = s.reports; bad = s.bad }
 -- the text is one that the view shows of the reading, and the summary sums it up
 pub record IsWritten (view : View) (c : output.Course) (bytes : List ℕ)
     (summary : Summary) : Type 0 where
-  pub is_shown : output.IsShown view c bytes summary.circle
+  pub is_shown : IsShown view c bytes summary.circle
   pub summed : total summary ≡ output.summed c.reached c.bad
 
 -- what the view shows of the rest of a trace, of which the first line has this number

@@ -3,6 +3,7 @@
 
 mod replaying;
 mod status;
+mod view;
 
 pub use replaying::calls::{assertion, number_of, remark, warning};
 pub use replaying::frequent_lines::read_line;
@@ -11,5 +12,6 @@ pub use replaying::line_reader::LineReader;
 pub use replaying::prelude::{Prelude, add_line, is_prelude, new_prelude, verifier_of};
 pub use replaying::{bad_text, replay, replay_through};
 pub use status::{BAD_TRACE, FAILED, NOTHING_REPORTED, REPORTED, status_of};
+pub use view::View;
 pub use wit_grammar::{LineError, parse_line, print_line, spelled};
 pub use wit_stream::{Failures, Ports, ReplayError, Summary};

@@ -21,7 +21,9 @@ pub mod prelude;
 mod reaching;
 mod views;
 
+use crate::view::View;
 pub use bad_lines::bad_text;
+use driven::Driven;
 use driving::Driving;
 use frequent_lines::{read_line, read_step_line};
 use prelude::Prelude;
@@ -30,13 +32,15 @@ use std::io::{BufRead, Write};
 use views::show;
 use wit_core::Verifier;
 use wit_grammar::{LineError, begin_line};
-use wit_model::{Cause, View};
+use wit_model::Cause;
+use wit_state::ends_hindered;
 use wit_stream::{Failures, Machine, Pace, Ports, ReplayError, Step, Summary, run};
 use wit_world::World;
 
-/// Reads a trace, and writes what the view shows of it: for `Reports` the texts of the reports,
-/// failed assertions and warnings as they come; for each other view its text after the whole trace.
-/// At a bad line the reading ends: its number and cause are written, for other views nothing else.
+/// Reads a trace, and writes what the view shows of it: for `Reports` and `State` the texts of the
+/// reports, failed assertions and warnings as they come; for each view but `Reports` its text after the
+/// whole trace. At a bad line the reading ends: its number and cause are written, and for views but
+/// `Reports` and `State` nothing else.
 ///
 /// A text is written and flushed before the reader is looked at again. After `Ok` exactly the lines
 /// up to the one that ended the reading were taken, of one that is too long its first 4,097 bytes.
@@ -100,6 +104,7 @@ pub fn replay_through<R: BufRead, W: Write, P: Ports<R, W>>(
     let mut machine = Replaying {
         view,
         progress: Progress::Unstarted,
+        against: 0,
     };
     run(alloc, ports, &mut machine, Pace::AtOnce, input, output)
 }
@@ -110,6 +115,8 @@ pub(crate) struct Replaying {
     /// What is shown of it.
     view: View,
     progress: Progress,
+    /// The first line that keeps the log from being clean, where that is told; 0 for none.
+    against: u64,
 }
 
 /// How far a replay is.
@@ -126,6 +133,30 @@ pub(crate) enum Progress {
 }
 
 impl Replaying {
+    // A whole line.
+    #[inline(always)]
+    fn whole_line(
+        &mut self,
+        alloc: Global,
+        number: u64,
+        bytes: &[u8],
+        text: &mut Vec<u8>,
+    ) -> Result<Step, AllocError>
+        requires { MayReadAt (progress self.old) number bytes.now text.old.items }
+        ensures view { self.new.view ≡ self.old.view }
+        ensures read { IfOk result (IsRead self.old.view (progress self.old) number bytes.now
+            (progress self.new) text.new.items) }
+    {
+        let view = self.view;
+        match &mut self.progress {
+            Progress::Reading(driving) => read_line(driving, alloc, view, number, bytes, text),
+            Progress::Stepping(driving) => {
+                read_step_line(driving, alloc, view, number, bytes, text)
+            }
+            _ => self.opening_line(alloc, number, bytes, text),
+        }
+    }
+
     // A line before the prelude is over, or that ends it. By itself, so that no other pays for it.
     #[inline(never)]
     fn opening_line(
@@ -153,6 +184,30 @@ impl Replaying {
             Err(error) => self.progress.ended_step(alloc, number, error, text),
         }
     }
+
+    // Keeps the number of the line that was read, where it is the first that keeps the log from being
+    // clean, and that is told.
+    #[inline(always)]
+    fn mark(&mut self, number: u64)
+        ensures { self.new ≡ record self.old { against = self.new.against } }
+    {
+        if self.view.tells_hindrance() && self.against == 0 && self.progress.is_hindered() {
+            self.against = number;
+        }
+    }
+}
+
+impl Progress {
+    // Whether the line that was read last keeps the log from being clean; one that makes no call does
+    // where the call before it does.
+    fn is_hindered(&self) -> bool {
+        match self {
+            Progress::Unstarted => false,
+            Progress::Opening(prelude) => prelude.blesses(),
+            Progress::Reading(driving) => ends_hindered(driving.driven.verifier()),
+            Progress::Stepping(driving) => ends_hindered(driving.driven.verifier()),
+        }
+    }
 }
 
 impl Machine for Replaying {
@@ -171,14 +226,9 @@ impl Machine for Replaying {
         bytes: &[u8],
         text: &mut Vec<u8>,
     ) -> Result<Step, AllocError> {
-        let view = self.view;
-        match &mut self.progress {
-            Progress::Reading(driving) => read_line(driving, alloc, view, number, bytes, text),
-            Progress::Stepping(driving) => {
-                read_step_line(driving, alloc, view, number, bytes, text)
-            }
-            _ => self.opening_line(alloc, number, bytes, text),
-        }
+        let step = self.whole_line(alloc, number, bytes, text)?;
+        self.mark(number);
+        Ok(step)
     }
 
     fn broken(
@@ -200,8 +250,8 @@ impl Machine for Replaying {
             return self.progress.ended(alloc, number, cause);
         }
         match &self.progress {
-            Progress::Reading(driving) => driving.ended(alloc, self.view),
-            Progress::Stepping(driving) => driving.ended(alloc, self.view),
+            Progress::Reading(driving) => driving.ended(alloc, self.view, self.against),
+            Progress::Stepping(driving) => driving.ended(alloc, self.view, self.against),
             Progress::Unstarted | Progress::Opening(_) => {
                 self.progress.ended(alloc, number, Cause::Cut)
             }

@@ -3,15 +3,15 @@
 ghost use Rattle.std.specs.Prelude.{◌≡◌};
 ghost use Rattle.wit_trace.specs.Status.{exit_status, is_reported};
 
-use wit_model::View;
+use crate::view::View;
 use wit_stream::{ReplayError, Summary};
 
-/// The exit status where the view shows nothing to act upon: no report of `Reports`, no circle of
-/// `Circle`; and of `Graph` and `Locks`.
+/// The exit status where the view shows nothing to act upon: no report of `Reports` and `State`, no
+/// circle of `Circle`, a clean log of `Clean`; and of `Graph` and `Locks`.
 pub const NOTHING_REPORTED: u8 = 0;
 
-/// The exit status where there was a report, failed assertion or warning, of `Reports`, or a
-/// circle, of `Circle`.
+/// The exit status where there was a report, failed assertion or warning, of `Reports` and `State`; a
+/// circle, of `Circle`; or a log that isn't clean, of `Clean`.
 pub const REPORTED: u8 = 1;
 
 /// The exit status where a line of the trace was bad.
@@ -42,8 +42,8 @@ fn has_reported(view: View, summary: &Summary) -> bool
     ensures { result ≡ is_reported view summary.now }
 {
     match view {
-        View::Reports => summary.reports > 0,
+        View::Reports | View::State => summary.reports > 0,
         View::Graph | View::Locks => false,
-        View::Circle => summary.circle,
+        View::Circle | View::Clean => summary.circle,
     }
 }

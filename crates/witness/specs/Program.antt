@@ -1,8 +1,6 @@
 -- What the program does with its words and its input.
 use Rattle.std.specs.Prelude.{ℕ, ◌≡◌, ◌⊎◌, false, List, Option, None, Ok}
 use Rattle.std.specs.Io.KnownBytes.{Keeps}
-use Rattle.wit_model.specs.declared.lines.View.{View}
-use Rattle.wit_model.specs.declared.lines.View.TheVariants.{Graph, Reports}
 use Rattle.wit_model.specs.Trace.Output.{Unstarted}
 use Rattle.wit_model.specs.Trace.Moving.{Unmoved}
 use Rattle.wit_demo.specs.Demonstration.{IsEnded, IsTold}
@@ -16,6 +14,8 @@ use Rattle.wit_command.specs.declared.command.Source.{Source}
 use Rattle.wit_command.specs.declared.command.Source.TheVariants.{Ftrace, Lttng, Plain}
 use Rattle.wit_trace.specs.Replays.{ShowsTrace, ShowsFrom}
 use Rattle.wit_trace.specs.Status.{exit_status}
+use Rattle.wit_trace.specs.declared.view.View.{View}
+use Rattle.wit_trace.specs.declared.view.View.TheVariants.{Graph, Reports}
 use Rattle.wit_stream.specs.Stream.{WritesOutput, WritesFront, WritesLines}
 use Rattle.wit_stream.specs.declared.summary.Summary.{Summary}
 use Rattle.witness.specs.declared.program.Ended.{Ended}

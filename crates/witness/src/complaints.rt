@@ -12,7 +12,8 @@ use wit_trace::FAILED;
 pub const BAD_USAGE: u8 = 2;
 
 /// How the program is used.
-pub const USAGE: &str = "usage: witness replay|graph|locks|circle|migrate|forecast < TRACE
+pub const USAGE: &str = "usage: witness replay|graph|locks|circle|state|clean < TRACE
+       witness migrate|forecast < TRACE
        witness grade < FACTS
        witness import plain|lttng < LINES
        witness import ftrace [--no-irq] [--no-readers] < LINES
@@ -23,6 +24,8 @@ Reads a trace of lock calls from standard input, and writes
   graph    the direct orders between lock types, after the whole trace
   locks    the locks that the seats hold, after the whole trace
   circle   a circle of seats that wait for one another, or that there is none, after the whole trace
+  state    the reports as they come, and what is known after the whole trace, for programs: its fields are parted by tabs
+  clean    whether the trace is clean, after the whole trace: if not, which line stands against it, and why
   migrate  the trace in the second version of the format, in which it tells each step of the locks themselves
   forecast how threads could have come to hang, of each report of such a trace: its lines in another sequence
 With grade it reads facts in place of a trace: which lock a thread asked for while it held another. At each line that asks
@@ -31,8 +34,9 @@ With import it reads lines that tell how threads acquire and release locks, and 
 kernel's ftrace, or of LTTng's pthread wrapper. With --no-irq an interrupt stands for no lock, with --no-readers recursive
 readers are told as others are. What is left out of the trace is counted on standard error.
 With demo it reads nothing: threads take two locks in one order, and then one takes them in the other, which is reported.
-Status: 0 nothing was reported, 1 something was reported (replay, demo), there is a circle (circle) or a schedule (forecast),
-2 bad usage, 3 a bad line (the last line of the output says which and why), 4 no memory, or reading or writing failed.
+Status: 0 nothing was reported, 1 something was reported (replay, state, demo), the trace isn't clean (clean), there is a circle
+(circle) or a schedule (forecast), 2 bad usage, 3 a bad line (the last line of the output says which and why), 4 no memory, or
+reading or writing failed.
 The format of a trace: docs/man/witness-trace.5; of facts and grades: docs/man/witness-grade.5; of lines: docs/man/witness-import.1
 ";
 

@@ -9,9 +9,8 @@ use std::io::Write;
 use std::sync::Wait;
 use std::thread::Threads;
 use wit_demo::demo;
-use wit_model::View;
 use wit_stream::ReplayError;
-use wit_trace::status_of;
+use wit_trace::{View, status_of};
 
 /// Runs the demonstration, and gives the exit status: that of a replay that reports what was
 /// reported.

@@ -7,6 +7,7 @@ ghost use Rattle.wit_grades.specs.Outputs.{Grades};
 ghost use Rattle.wit_migrate.specs.Again.{WritesTheSame};
 ghost use Rattle.wit_migrate.specs.Migrates.{Migrates};
 ghost use Rattle.wit_trace.specs.Replays.{ShowsTrace};
+ghost use Rattle.wit_trace.specs.declared.view.View.TheVariants.{Circle};
 ghost use Rattle.wit_stream.specs.Stream.{WritesFront, WritesOutput};
 ghost use Rattle.wit_command.specs.CommandLine.{asked, bytes_of};
 ghost use Rattle.wit_stream.specs.declared.summary.ReplayError.TheVariants as ReplayError;
@@ -21,7 +22,6 @@ ghost use Rattle.witness.specs.Program.{IsCutShort, IsGradedAndExits, IsGradingC
 ghost use Rattle.witness.specs.Program.{ImportsBy, IsImportedAndExits, IsImportCut, IsMigratedAndExits};
 ghost use Rattle.witness.specs.Program.{IsMigrationCut, IsOutputCut, IsShownAndExits};
 ghost use Rattle.witness.specs.Program.{IsWrittenAndExits, TellsGrades};
-ghost use Rattle.wit_model.specs.declared.lines.View.TheVariants.{Circle};
 ghost use Rattle.witness.specs.Program.{TellsImported, TellsLines, TellsMovedLines};
 
 use crate::complaints::{refuse, tell_counts};
@@ -33,9 +33,8 @@ use wit_grades::grade_facts;
 use wit_import::{Counts, import};
 use wit_kernel::{Settings, Tracer, import_traced};
 use wit_migrate::migrate;
-use wit_model::View;
 use wit_stream::{ReplayError, Summary};
-use wit_trace::{replay, status_of};
+use wit_trace::{View, replay, status_of};
 
 // So much of the input is read at once. A migration looks beyond a line for the end of the next one
 // only where less than a line of the greatest length is left of it.

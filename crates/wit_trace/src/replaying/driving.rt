@@ -16,9 +16,10 @@ use crate::replaying::driven::Driven;
 use crate::replaying::line_calls::{LineCall, call_of, file_of, file_on_lock, lock_call};
 use crate::replaying::line_reader::LineReader;
 use crate::replaying::views::show;
+use crate::view::View;
 use std::alloc::{AllocError, Global};
 use wit_grammar::{Begun, LineError, finish_line};
-use wit_model::{Call, FileNo, Line, LockLine, LockNo, RawStep, SeatNo, View};
+use wit_model::{Call, FileNo, Line, LockLine, LockNo, RawStep, SeatNo};
 use wit_stream::Step;
 
 /// What lines drive, and how many failed assertions and warnings were told: no log holds these.

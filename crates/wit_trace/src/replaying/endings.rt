@@ -2,10 +2,10 @@
 
 ghost use Rattle.std.specs.Prelude.{◌≡◌, ◌<◌, ◌^◌, ℕ, [], false, Some, IfOk};
 ghost use Rattle.wit_model.specs.declared.lines.Cause.{Cause};
-ghost use Rattle.wit_model.specs.declared.lines.View.{View};
 ghost use Rattle.wit_model.specs.Trace.Output.{bad_text, ends, summed};
 ghost use Rattle.wit_model.specs.Trace.Output as output;
 ghost use Rattle.wit_fields.specs.declared.errors.LineError.TheVariants.{Bad};
+ghost use Rattle.wit_trace.specs.declared.view.View.{View};
 ghost use Rattle.wit_trace.specs.Replays.{progress_of, reports_told, total, EndsFor, IsWritten};
 
 use crate::replaying::Progress;
@@ -13,9 +13,10 @@ use crate::replaying::bad_lines::bad_text;
 use crate::replaying::driven::Driven;
 use crate::replaying::driving::Driving;
 use crate::replaying::views::last_text;
+use crate::view::View;
 use std::alloc::{AllocError, Global};
 use wit_grammar::LineError;
-use wit_model::{Boxed, Cause, View};
+use wit_model::{Boxed, Cause};
 use wit_stream::{Step, Summary};
 
 impl Progress {
@@ -129,17 +130,23 @@ impl<D: Driven> Driving<D> {
         }
     }
 
-    /// The last text and the summary after the whole trace.
+    /// The last text and the summary after the whole trace. `against` is the line that keeps the log
+    /// from being clean.
     ///
     /// # Errors
     /// Want of memory alone.
-    pub fn ended(&self, alloc: Global, view: View) -> Result<(Vec<u8>, Summary), AllocError>
+    pub fn ended(
+        &self,
+        alloc: Global,
+        view: View,
+        against: u64,
+    ) -> Result<(Vec<u8>, Summary), AllocError>
         requires { reports_told (D.reading self.now.driven self.now.remarks) < 2 ^ 64 }
         ensures { (number : ℕ) → IfOk result (λ r. IsWritten view
             (ends (D.reading self.now.driven self.now.remarks) number []) r.0.items r.1) }
     {
         // A last text fails for want of memory alone.
-        let Ok((text, circle)) = last_text(alloc, view, &self.driven) else {
+        let Ok((text, circle)) = last_text(alloc, view, &self.driven, against) else {
             return Err(AllocError);
         };
         Ok((text, self.summary(circle, None)))

@@ -31,6 +31,13 @@ pub struct Prelude {
     blessed: Vec<(String, String)>,
 }
 
+impl Prelude {
+    /// Whether it blesses a pair so far.
+    pub(crate) fn blesses(&self) -> bool {
+        !self.blessed.is_empty()
+    }
+}
+
 /// A prelude that says nothing but the version and the limits.
 pub fn new_prelude(alloc: Global, version: Version, limits: Limits) -> Prelude
     ensures { prelude_of result ≡ empty_prelude version limits }
