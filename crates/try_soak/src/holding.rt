@@ -2,7 +2,7 @@
 
 ghost use Rattle.std.specs.Prelude.{◌≡◌, IfSome};
 
-use crate::observing::learn;
+use crate::observing::{learn, learn_all};
 use crate::worker::{Made, Place, Worker};
 use std::sync::Wait;
 use wit_gates::Gate;
@@ -26,11 +26,7 @@ pub(crate) fn play<J: Room, R: Wait, G: Gate, K: Kind>(
 {
     match held.asked() {
         Some(Reply::Adopted(parent, child)) => learn(place, worker, *parent, *child),
-        Some(Reply::AdoptedAll(orders)) => {
-            if let Some((parent, child)) = orders.get().pairs().last().copied() {
-                learn(place, worker, parent, child);
-            }
-        }
+        Some(Reply::AdoptedAll(orders)) => learn_all(place, worker, orders.get().pairs()),
         _ => {}
     }
     match worker.random.below(8) {

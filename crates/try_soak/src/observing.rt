@@ -26,6 +26,19 @@ pub(crate) fn learn<J: Room, R: Wait>(
     }
 }
 
+/// And so is each of several that it adopted at once.
+pub(crate) fn learn_all<J: Room, R: Wait>(
+    place: &Place<J, R>,
+    worker: &mut Worker<J>,
+    pairs: &[(TypeNo, TypeNo)],
+)
+    ensures { worker.new.seat.seat ≡ worker.old.seat.seat }
+{
+    for pair in pairs {
+        learn(place, worker, pair.0, pair.1);
+    }
+}
+
 /// Looks at how many orders there are: never fewer than before.
 pub(crate) fn look<J: Room>(worker: &mut Worker<J>)
     ensures { worker.new.seat ≡ worker.old.seat }

@@ -33,6 +33,7 @@ use Rattle.wit_model.specs.World.Deeds.{log_of}
 use Rattle.wit_model.specs.World.Examples.{small, files, request, makes_mutex}
 use Rattle.wit_model.specs.World.Steps.{IsWorld}
 use Rattle.wit_model.specs.World.Tried.{small_all_held}
+use Rattle.wit_model.specs.World.Waiting.{IsWaiting}
 use Rattle.wit_model.proofs.Chains.Held.{in-held}
 use Rattle.wit_model.proofs.Chains.Sane.{IsSane}
 use Rattle.wit_model.proofs.Histories.Legal.{sane_legal}
@@ -44,7 +45,7 @@ use Rattle.wit_recordings.proofs.Shorter.{is_check}
 use Rattle.wit_recordings.specs.Recordings.{NamedType, AsksWhileHolding}
 use Rattle.wit_duty.specs.Streams.{IsEmpty, HasChain, IsRecorded, Begun, Written, Called, Known, Asking}
 use Rattle.wit_duty.specs.Streams.{IsAnswered, IsOfType}
-use Rattle.wit_duty.specs.Twice.{two_names, asked_twice, asked_once}
+use Rattle.wit_duty.specs.Twice.{two_names, asked_meanwhile, asked_twice, asked_once}
 
 -- ---- sets
 
@@ -235,29 +236,28 @@ not-asking : (h : List Entry) (e : Entry) → is_check e.call ≡ false → (a b
     → AsksWhileHolding h e a b → ⊥
 not-asking h e isnt a b now = true≢false (sym (ap is_check now.asks) ∙ isnt)
 
--- before the first lock is had
-none-held : (e : Entry) → e.seat.0 ≡ 1 → (a b : NamedType) → AsksWhileHolding made e a b → ⊥
-unfolding num
-none-held e is a b now =
-    false≢true (sym (ap (λ s. is_held s now.other made) is) ∙ now.holds)
+-- while the seat holds nothing
+none-held : (h : List Entry) (e : Entry) → ((l : ℕ) → is_held e.seat.0 l h ≡ false)
+    → (a b : NamedType) → AsksWhileHolding h e a b → ⊥
+none-held h e none a b now = false≢true (sym (none now.other) ∙ now.holds)
 
-only-held : (h : List Entry) → IsSane h → held 1 h ≡ 1 ∷ [] → (l : ℕ) → is_held 1 l h ≡ true
-    → l ≡ 1
-only-held h sane is l has =
+only-held : (t : ℕ) (h : List Entry) → IsSane h → held t h ≡ 1 ∷ [] → (l : ℕ)
+    → is_held t l h ≡ true → l ≡ 1
+only-held t h sane is l has =
     sym (eqb-true 1 l
     (sym (or-none (eqb 1 l)) ∙ (ap (λ ms. list_any (λ m. eqb m l) ms) (sym is)
-    ∙ (in-held 1 l h sane ∙ has))))
+    ∙ (in-held t l h sane ∙ has))))
 
 same-request : (q r : Request) → ◌≡◌ {A = Call} (Check q) (Check r) → q ≡ r
 same-request q r is = (cc)
 
-module _ (h : List Entry) (e : Entry) (line : ℕ) (seat : e.seat.0 ≡ 1)
-    (asks : e.call ≡ Check (request 2 line)) (sane : IsSane h) (is : held 1 h ≡ 1 ∷ [])
+module _ (t : ℕ) (h : List Entry) (e : Entry) (line : ℕ) (seat : e.seat.0 ≡ t)
+    (asks : e.call ≡ Check (request 2 line)) (sane : IsSane h) (is : held t h ≡ 1 ∷ [])
     (first : IsOfType two_names h 1 1) (second : IsOfType two_names h 2 2) where
   has-chain : HasChain two_names h e (link_a ∷ []) b_asked
   has-chain = record {
     holds = λ l has.
-        let one = only-held h sane is l (ap (λ s. is_held s l h) (sym seat) ∙ has) in
+        let one = only-held t h sane is l (ap (λ s. is_held s l h) (sym seat) ∙ has) in
         (1, (refl, subst (λ k. IsOfType two_names h k 1) (sym one) first));
     asks = λ q asked unheld.
         let same = same-request (request 2 line) q (sym asks ∙ asked) in
@@ -276,41 +276,68 @@ unfolding num place mode mark site seat_groups
 once-legal =
     legal_world small_all_held files asked_once (is_world small_all_held files asked_once refl refl)
 
--- the deeds until the second request, and until the first
-abbrev before_second : List Entry
-before_second = drop 1 (log_of asked_twice)
+pub second-waits : IsWaiting asked_meanwhile 2 1
+unfolding num
+second-waits = record {
+  request = request 1 3;
+  asks = refl;
+  unheld = refl;
+  another = λ e. omega arith;
+  taken = omega arith;
+  barred = refl;
+}
+
+-- the deeds until the second request for B, until the second one for A, and until the first for B
+abbrev before_last : List Entry
+before_last = drop 1 (log_of asked_twice)
+
+abbrev before_meanwhile : List Entry
+before_meanwhile = drop 1 (log_of asked_meanwhile)
 
 abbrev before_first : List Entry
-before_first = drop 4 (log_of asked_twice)
+before_first = drop 3 (log_of asked_meanwhile)
 
-legal : IsSane before_second
+legal : IsSane before_last
 legal = (sane_legal small files (log_of asked_twice) (legal_world small files asked_twice twice-world)).1
+
+legal-first : IsSane before_first
+legal-first = legal.1.1.1.1.1.1
 
 known : is_known one_sets (link_a ∷ []) 2 ≡ true
 unfolding one_sets
 known = one-had 1 2 ∙ ap (λ had. had || true) (none-had 1 2)
 
+first-recorded : IsRecorded two_names before_meanwhile one_sets (log_of asked_once)
+unfolding num place
+first-recorded =
+    Called _ _ _ _ _
+    (Asking _ before_first no_sets one_sets made _ _ 1 (link_a ∷ []) b_asked
+    (Called _ _ _ _ _
+    (Called _ made _ _ _
+    (Called _ _ _ _ _
+    (Called _ _ _ _ _
+    (Written _ [] no_sets [] made (Begun two_names no_sets no_sets-empty) (made, refl))
+    (not-asking _ _ refl))
+    (not-asking _ _ refl))
+    (none-held made _ (λ l. refl)))
+    (not-asking _ _ refl))
+    (has-chain 1 before_first _ 2 refl refl legal-first refl refl refl)
+    answered)
+    (not-asking _ _ refl)
+
 pub twice-kept : (sets : Condensed) × IsRecorded two_names (log_of asked_twice) sets (log_of asked_once)
 unfolding num place
 twice-kept = (
   one_sets,
-  Known _ before_second _ _ _ (link_a ∷ []) b_asked
+  Known _ before_last _ _ _ (link_a ∷ []) b_asked
       (Called _ _ _ _ _
       (Called _ _ _ _ _
-      (Asking _ before_first no_sets one_sets made _ _ 1 (link_a ∷ []) b_asked
       (Called _ _ _ _ _
-      (Called _ made _ _ _
-      (Called _ _ _ _ _
-      (Called _ _ _ _ _
-      (Written _ [] no_sets [] made (Begun two_names no_sets no_sets-empty) (made, refl))
+      (Called _ _ _ _ _ first-recorded
+      (none-held before_meanwhile _ (λ l. refl)))
       (not-asking _ _ refl))
       (not-asking _ _ refl))
-      (none-held _ refl))
       (not-asking _ _ refl))
-      (has-chain before_first _ 2 refl refl legal.1.1.1 refl refl refl)
-      answered)
-      (not-asking _ _ refl))
-      (not-asking _ _ refl))
-      (has-chain before_second _ 3 refl refl legal refl refl refl)
+      (has-chain 2 before_last _ 4 refl refl legal refl refl refl)
       known,
 )

@@ -12,7 +12,7 @@ ghost use Rattle.wit_duty.specs.Streams.{
   RecordedIsCovered,
   RecordedRunsNeverDeadlock,
 };
-ghost use Rattle.wit_duty.specs.Twice.{TwiceIsRecorded, TwiceMeetsPremises};
+ghost use Rattle.wit_duty.specs.Twice.{TwiceIsRecorded, TwiceMeetsPremises, TwiceWaits};
 
 /// A pair that is in the sets of `wit_condensed` was written: the stream tells of it. So it is at
 /// first, when the sets are empty. So it stays, whatever is written. So it is after each answer,
@@ -38,9 +38,11 @@ pub fn law_answers_keep_duty()
     ensures run { RecordedRunsNeverDeadlock }
 {}
 
-/// Such recordings are there, and leave requests out. A thread asks twice for a lock of one type
-/// under one of another: the second request isn't written, and the rest is clean.
+/// Such recordings are there, and leave requests out. Two threads ask for a lock of one type under
+/// one of another, and the one waits for the other in between: the second request isn't written, and
+/// the rest is clean.
 pub fn law_asked_twice()
     ensures recorded { TwiceIsRecorded }
+    ensures waits { TwiceWaits }
     ensures met { TwiceMeetsPremises }
 {}
