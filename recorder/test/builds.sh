@@ -105,6 +105,11 @@ if wanted builds; then
         made_are "$work/small/out" ${line#* }
         tell builds "what a newer ${line%% *} is in" $?
     done
+    plant_small small && built small/build && rm -rf moved && cp -Rp small moved
+    later moved/recorder.h
+    built moved/build
+    made_are "$work/moved/out" start.o recorder.so
+    tell builds "what a newer header is in, where all was moved" $?
     plant_small small && built small/build
     printf x >>small/libwit_condensed_c.a
     later small/libwit_condensed_c.a
