@@ -1,0 +1,26 @@
+//! Documents of what a recording shows: the JSON report of `record --json` is read, and written anew in
+//! forms that people and other programs read.
+#![tactic(auto)]
+
+mod document;
+mod flows;
+mod kinds;
+mod lines;
+mod locations;
+mod members;
+pub mod places;
+mod plain;
+pub mod reading;
+mod results;
+mod sarif;
+mod stacks;
+#[cfg(test)]
+mod tests;
+mod uris;
+
+pub use document::{DocumentError, report_of, write_sarif};
+pub use kinds::{KINDS, Kind, is_confirmed, kind_of};
+pub use lines::{Line, LineKind, lines_of};
+pub use plain::put_plain;
+pub use sarif::put_sarif;
+pub use uris::put_uri;

@@ -1,0 +1,14 @@
+use Rattle.wit_findings.specs.Told.{nothing_told}
+use Rattle.wit_findings.proofs.Runs.{nothing-where-refused, run-end, run-lines}
+use Rattle.wit_findings.proofs.finding.findings.Goals as goal
+
+pub returns-in_err-machine-clause-err : goal.returns-in_err-machine-clause-err
+returns-in_err-machine-clause-err g c = nothing-where-refused _ _ _
+
+pub returns-clause-taken : goal.returns-clause-taken
+returns-clause-taken g c =
+    run-end _ nothing_told c.in_ok-machine.ensures _ _ _ _ _ c.run.ensures.taken
+
+pub returns-clause-told : goal.returns-clause-told
+returns-clause-told g c = λ failed.
+    run-lines _ nothing_told c.in_ok-machine.ensures _ _ _ _ (c.run.ensures.told failed)

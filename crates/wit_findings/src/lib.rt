@@ -1,0 +1,14 @@
+//! What a recording shows, told as its lines come: reports, orders, who waits for whom, whether all is
+//! clean, and each bad line.
+#![tactic(auto)]
+
+mod errors;
+mod finding;
+mod objects;
+mod recording;
+mod reports;
+mod spots;
+mod states;
+mod steps;
+
+pub use finding::findings;
