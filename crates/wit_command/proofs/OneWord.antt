@@ -15,7 +15,9 @@ use Rattle.clap.proofs.OnLiterals.{clap_on_literals}
 use Rattle.wit_trace.specs.declared.view.View.TheVariants.{Reports, Graph, Locks, Circle, State}
 use Rattle.wit_trace.specs.declared.view.View.TheVariants.{Clean}
 use Rattle.wit_command.specs.declared.command.Command.{Command}
-use Rattle.wit_command.specs.declared.command.Command.TheVariants.{Show, Migrate, Forecast, Grade, Demo}
+use Rattle.wit_command.specs.declared.command.Command.TheVariants.{Show, Migrate, Forecast, Grade}
+use Rattle.wit_command.specs.declared.command.Command.TheVariants.{Findings, Write, Demo}
+use Rattle.wit_command.specs.declared.command.Form.TheVariants.{Html, Sarif}
 use Rattle.wit_command.specs.CommandLine.{asked_alone, bytes_of, command_line, command_named}
 use Rattle.wit_command.specs.CommandLine.{only_word, option_named}
 
@@ -91,9 +93,10 @@ given_is_asked (name ∷ word ∷ third ∷ more) given two e = absurd (omega ar
 -- what each word has that asks for something
 pub for_words : (P : Text → Type 0) → P (codes "replay") → P (codes "graph") → P (codes "locks")
     → P (codes "circle") → P (codes "state") → P (codes "clean") → P (codes "migrate")
-    → P (codes "forecast") → P (codes "grade")
-    → P (codes "demo") → (word : Text) (what : Command) → command_named word ≡ Some what → P word
-for_words P replay graph locks circle state clean migrate forecast grade demo word what is =
+    → P (codes "forecast") → P (codes "grade") → P (codes "findings") → P (codes "html")
+    → P (codes "sarif") → P (codes "demo") → (word : Text) (what : Command)
+    → command_named word ≡ Some what → P word
+for_words P replay graph locks circle state clean migrate forecast grade findings html sarif demo word what is =
     go (bytes_eq word (codes "replay")) refl
     (bytes_eq word (codes "graph")) refl
     (bytes_eq word (codes "locks")) refl
@@ -103,6 +106,9 @@ for_words P replay graph locks circle state clean migrate forecast grade demo wo
     (bytes_eq word (codes "migrate")) refl
     (bytes_eq word (codes "forecast")) refl
     (bytes_eq word (codes "grade")) refl
+    (bytes_eq word (codes "findings")) refl
+    (bytes_eq word (codes "html")) refl
+    (bytes_eq word (codes "sarif")) refl
     (bytes_eq word (codes "demo")) refl is
   where
     same : (literal : Text) → bytes_eq word literal ≡ true → P literal → P word
@@ -117,6 +123,9 @@ for_words P replay graph locks circle state clean migrate forecast grade demo wo
         → (m : Bool) → bytes_eq word (codes "migrate") ≡ m
         → (f : Bool) → bytes_eq word (codes "forecast") ≡ f
         → (t : Bool) → bytes_eq word (codes "grade") ≡ t
+        → (k : Bool) → bytes_eq word (codes "findings") ≡ k
+        → (h : Bool) → bytes_eq word (codes "html") ≡ h
+        → (a : Bool) → bytes_eq word (codes "sarif") ≡ a
         → (d : Bool) → bytes_eq word (codes "demo") ≡ d
         → (if r then Some (Show Reports)
         else if g then Some (Show Graph)
@@ -127,29 +136,38 @@ for_words P replay graph locks circle state clean migrate forecast grade demo wo
         else if m then Some Migrate
         else if f then Some Forecast
         else if t then Some Grade
+        else if k then Some Findings
+        else if h then Some (Write Html)
+        else if a then Some (Write Sarif)
         else if d then Some Demo else None)
         ≡ Some what → P word
-    go true isr g isg l isl c isc s iss n isn m ism f isf t ist d isd e =
+    go true isr g isg l isl c isc s iss n isn m ism f isf t ist k isk h ish a isa d isd e =
         same (codes "replay") isr replay
-    go false isr true isg l isl c isc s iss n isn m ism f isf t ist d isd e =
+    go false isr true isg l isl c isc s iss n isn m ism f isf t ist k isk h ish a isa d isd e =
         same (codes "graph") isg graph
-    go false isr false isg true isl c isc s iss n isn m ism f isf t ist d isd e =
+    go false isr false isg true isl c isc s iss n isn m ism f isf t ist k isk h ish a isa d isd e =
         same (codes "locks") isl locks
-    go false isr false isg false isl true isc s iss n isn m ism f isf t ist d isd e =
+    go false isr false isg false isl true isc s iss n isn m ism f isf t ist k isk h ish a isa d isd e =
         same (codes "circle") isc circle
-    go false isr false isg false isl false isc true iss n isn m ism f isf t ist d isd e =
+    go false isr false isg false isl false isc true iss n isn m ism f isf t ist k isk h ish a isa d isd e =
         same (codes "state") iss state
-    go false isr false isg false isl false isc false iss true isn m ism f isf t ist d isd e =
+    go false isr false isg false isl false isc false iss true isn m ism f isf t ist k isk h ish a isa d isd e =
         same (codes "clean") isn clean
-    go false isr false isg false isl false isc false iss false isn true ism f isf t ist d isd e =
+    go false isr false isg false isl false isc false iss false isn true ism f isf t ist k isk h ish a isa d isd e =
         same (codes "migrate") ism migrate
-    go false isr false isg false isl false isc false iss false isn false ism true isf t ist d isd e =
+    go false isr false isg false isl false isc false iss false isn false ism true isf t ist k isk h ish a isa d isd e =
         same (codes "forecast") isf forecast
-    go false isr false isg false isl false isc false iss false isn false ism false isf true ist d isd e =
+    go false isr false isg false isl false isc false iss false isn false ism false isf true ist k isk h ish a isa d isd e =
         same (codes "grade") ist grade
-    go false isr false isg false isl false isc false iss false isn false ism false isf false ist true isd e =
+    go false isr false isg false isl false isc false iss false isn false ism false isf false ist true isk h ish a isa d isd e =
+        same (codes "findings") isk findings
+    go false isr false isg false isl false isc false iss false isn false ism false isf false ist false isk true ish a isa d isd e =
+        same (codes "html") ish html
+    go false isr false isg false isl false isc false iss false isn false ism false isf false ist false isk false ish true isa d isd e =
+        same (codes "sarif") isa sarif
+    go false isr false isg false isl false isc false iss false isn false ism false isf false ist false isk false ish false isa true isd e =
         same (codes "demo") isd demo
-    go false isr false isg false isl false isc false iss false isn false ism false isf false ist false isd e = cc
+    go false isr false isg false isl false isc false iss false isn false ism false isf false ist false isk false ish false isa false isd e = cc
 
 -- clap gives a text where the only word asks for something
 pub word_is_given : (words : List Text) (word : Text) (what : Command) → only_word words ≡ Some word
@@ -162,7 +180,7 @@ word_is_given (name ∷ only ∷ []) word what e is =
     (same_text _ _ e)
     ∙ ap (λ b. if b then None else Some word)
     (for_words (λ w. bytes_eq w (45 ∷ 45 ∷ []) ≡ false) refl refl refl refl refl refl
-    refl refl refl refl word what is)
+    refl refl refl refl refl refl refl word what is)
 word_is_given (name ∷ only ∷ third ∷ more) word what e is = cc
 
 literal_passes : (name word : Text) (what : Command) → command_named word ≡ Some what
@@ -170,7 +188,7 @@ literal_passes : (name word : Text) (what : Command) → command_named word ≡ 
 unfolding clap_on_literals
 literal_passes name word what is =
     for_words (λ w. takes command_line (name ∷ w ∷ []) ≡ true) refl refl refl refl refl refl
-    refl refl refl refl word what is
+    refl refl refl refl refl refl refl word what is
 
 -- clap accepts a command line whose only word asks for something
 pub word_passes : (words : List Text) (word : Text) (what : Command) → only_word words ≡ Some word
@@ -201,8 +219,9 @@ word_is_text word what is =
     for_words IsUtf8 (codes "replay", (refl, refl)) (codes "graph", (refl, refl))
     (codes "locks", (refl, refl)) (codes "circle", (refl, refl)) (codes "state", (refl, refl))
     (codes "clean", (refl, refl)) (codes "migrate", (refl, refl))
-    (codes "forecast", (refl, refl)) (codes "grade", (refl, refl)) (codes "demo", (refl, refl))
-    word what is
+    (codes "forecast", (refl, refl)) (codes "grade", (refl, refl))
+    (codes "findings", (refl, refl)) (codes "html", (refl, refl))
+    (codes "sarif", (refl, refl)) (codes "demo", (refl, refl)) word what is
 
 -- bytes that are no text ask for nothing
 pub unnamed_bytes : (word : List ℕ) → (IsUtf8 word → ⊥) → command_named word ≡ None

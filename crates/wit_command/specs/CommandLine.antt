@@ -8,7 +8,8 @@ use Rattle.wit_trace.specs.declared.view.View.TheVariants.{Reports, Graph, Locks
 use Rattle.wit_trace.specs.declared.view.View.TheVariants.{Clean}
 use Rattle.wit_command.specs.declared.command.Command.{Command}
 use Rattle.wit_command.specs.declared.command.Command.TheVariants.{Show, Migrate, Grade, Demo}
-use Rattle.wit_command.specs.declared.command.Command.TheVariants.{Forecast, Import}
+use Rattle.wit_command.specs.declared.command.Command.TheVariants.{Findings, Forecast, Import, Write}
+use Rattle.wit_command.specs.declared.command.Form.TheVariants.{Html, Sarif}
 use Rattle.wit_command.specs.declared.command.Choice.{Choice}
 use Rattle.wit_command.specs.declared.command.Choice.TheVariants.{Interrupts, Readers}
 use Rattle.wit_command.specs.declared.command.Encoding.{Encoding}
@@ -31,6 +32,9 @@ command_named word =
     else if bytes_eq word (codes "migrate") then Some Migrate
     else if bytes_eq word (codes "forecast") then Some Forecast
     else if bytes_eq word (codes "grade") then Some Grade
+    else if bytes_eq word (codes "findings") then Some Findings
+    else if bytes_eq word (codes "html") then Some (Write Html)
+    else if bytes_eq word (codes "sarif") then Some (Write Sarif)
     else if bytes_eq word (codes "demo") then Some Demo
     else None
 

@@ -31,6 +31,15 @@ pub enum Source {
     Lttng,
 }
 
+/// What a JSON report is written as.
+#[derive(Clone, Copy, Debug, PartialEq, Eq)]
+pub enum Form {
+    /// `html`: a page for people.
+    Html,
+    /// `sarif`: a log of SARIF, for what shows the results of analyses beside the sources.
+    Sarif,
+}
+
 /// What a command line asks for.
 #[derive(Clone, Copy, Debug, PartialEq, Eq)]
 pub enum Command {
@@ -42,6 +51,10 @@ pub enum Command {
     Forecast,
     /// The grades of the facts on standard input.
     Grade,
+    /// The findings of the recording on standard input.
+    Findings,
+    /// The JSON report on standard input, in such a form.
+    Write(Form),
     /// The lines on standard input, which such a source wrote, as a trace.
     Import(Source),
     /// The demonstration.

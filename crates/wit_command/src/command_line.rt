@@ -8,7 +8,7 @@ ghost use Rattle.wit_command.specs.CommandLine.{alone, choice_named, command_nam
 ghost use Rattle.wit_command.specs.CommandLine.{ftrace_by, import_named, with_choice};
 ghost use Rattle.wit_command.specs.CommandLine.{only_word, option_named, source_named, with_option};
 
-use crate::command::{Choice, Command, Encoding, Source};
+use crate::command::{Choice, Command, Encoding, Form, Source};
 use clap::error::ErrorKind;
 use clap::{Arg, ArgAction, Error};
 use std::alloc::{AllocError, Global};
@@ -208,6 +208,9 @@ fn named_command(word: &str) -> Option<Command>
         "migrate" => Some(Command::Migrate),
         "forecast" => Some(Command::Forecast),
         "grade" => Some(Command::Grade),
+        "findings" => Some(Command::Findings),
+        "html" => Some(Command::Write(Form::Html)),
+        "sarif" => Some(Command::Write(Form::Sarif)),
         "demo" => Some(Command::Demo),
         _ => None,
     }

@@ -4,5 +4,5 @@
 mod command;
 mod command_line;
 
-pub use command::{Command, Encoding, Source};
+pub use command::{Command, Encoding, Form, Source};
 pub use command_line::asked_command;

@@ -1,7 +1,7 @@
 //! The sets of pairs for the recorder, which is written in C: each export is a call of
 //! `wit_condensed` with a struct that C holds.
 //!
-//! An export of which C doesn't keep its part (`recorder/condensed.h`) isn't spoken of here. Each
+//! An export of which C doesn't keep its part (`recorder/runtime/condensed.h`) isn't spoken of here. Each
 //! other answers, whatever numbers it is given: none has a `requires`.
 #![tactic(auto)]
 

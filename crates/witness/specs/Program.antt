@@ -1,12 +1,15 @@
 -- What the program does with its words and its input.
-use Rattle.std.specs.Prelude.{ℕ, ◌≡◌, ◌⊎◌, false, List, Option, None, Ok}
+use Rattle.std.specs.Prelude.{ℕ, ◌≡◌, ◌⊎◌, false, IfSome, IsSome, List, Option, None, Ok}
 use Rattle.std.specs.Io.KnownBytes.{Keeps}
+use Rattle.json.specs.Json.{document}
 use Rattle.wit_model.specs.Trace.Output.{Unstarted}
 use Rattle.wit_model.specs.Trace.Moving.{Unmoved}
 use Rattle.wit_demo.specs.Demonstration.{IsEnded, IsTold}
 use Rattle.wit_migrate.specs.Again.{WritesTheSame}
 use Rattle.wit_migrate.specs.Migrates.{Migrates, MigratesFrom}
 use Rattle.wit_grades.specs.Outputs.{Grades, GradesFrom, nothing_told}
+use Rattle.wit_findings.specs.Findings.{FindsFrom}
+use Rattle.wit_findings.specs.Told as known
 use Rattle.wit_import.specs.Outputs.{Imports, ImportsFrom, nothing_seen}
 use Rattle.wit_kernel.specs.declared.importing.Tracer.TheVariants as tracer
 use Rattle.wit_kernel.specs.Outputs.{Imports as ImportsTraced, settings}
@@ -95,6 +98,12 @@ pub record TellsGrades (read written_old written_new : Option (List ℕ)) : Type
   pub left : Option (List ℕ)
   pub told : WritesLines GradesFrom nothing_told read left written_old written_new
 
+-- what is told of the whole lines that were taken from a recording was written, no less, whatever is
+-- left of it
+pub record TellsFindings (read written_old written_new : Option (List ℕ)) : Type 0 where
+  pub left : Option (List ℕ)
+  pub told : WritesLines FindsFrom known.nothing_told read left written_old written_new
+
 -- what is written of an input: the one trace of a script's lines or of a tracer's
 abbrev pub ImportsBy : Source → List ℕ → List ℕ → Summary → Type 0
 ImportsBy Plain = Imports
@@ -146,6 +155,14 @@ abbrev pub IsOutputCut : (List ℕ → List ℕ → Summary → Type 0) → Opti
     → Option (List ℕ) → Type 0
 IsOutputCut output read written_old written_new =
     Keeps written_old written_new ⊎ WritesFront output read written_old written_new
+
+-- a document of the input was written, which is JSON then; or the input was refused, and nothing was
+-- written
+abbrev pub IsWrittenOrRefused : Option (List ℕ) → Option (List ℕ) → Option (List ℕ) → Ended → Type 0
+IsWrittenOrRefused read written_old written_new (Exits status) =
+    ((status ≡ 0) × IfSome read (λ bytes. IsSome (document bytes)))
+    ⊎ ((status ≡ 3) × Keeps written_old written_new)
+IsWrittenOrRefused read written_old written_new ShowsThreads = ⊥
 
 -- the demonstration was told, or a call of it was refused, and this is its status, as that of a
 -- replay which reports what was reported

@@ -15,6 +15,8 @@ pub const BAD_USAGE: u8 = 2;
 pub const USAGE: &str = "usage: witness replay|graph|locks|circle|state|clean < TRACE
        witness migrate|forecast < TRACE
        witness grade < FACTS
+       witness findings < RECORDING
+       witness html|sarif < REPORT
        witness import plain|lttng < LINES
        witness import ftrace [--no-irq] [--no-readers] < LINES
        witness demo
@@ -30,14 +32,18 @@ Reads a trace of lock calls from standard input, and writes
   forecast how threads could have come to hang, of each report of such a trace: its lines in another sequence
 With grade it reads facts in place of a trace: which lock a thread asked for while it held another. At each line that asks
 for it, it writes whether threads can wait for one another so, and if not, what keeps them from it.
+With findings it reads what the recorder wrote of a program: it writes each report, each order, and what stands against them,
+a JSON object a line, as soon as it is known.
+With html or sarif it reads the JSON report of record --json, and writes a page for people or a log of SARIF.
 With import it reads lines that tell how threads acquire and release locks, and writes a trace: of a script (plain), of the
 kernel's ftrace, or of LTTng's pthread wrapper. With --no-irq an interrupt stands for no lock, with --no-readers recursive
 readers are told as others are. What is left out of the trace is counted on standard error.
 With demo it reads nothing: threads take two locks in one order, and then one takes them in the other, which is reported.
-Status: 0 nothing was reported, 1 something was reported (replay, state, demo), the trace isn't clean (clean), there is a circle
-(circle) or a schedule (forecast), 2 bad usage, 3 a bad line (the last line of the output says which and why), 4 no memory, or
+Status: 0 nothing was reported, 1 something was reported (replay, state, findings, demo), the trace isn't clean (clean), there is a circle
+(circle) or a schedule (forecast), 2 bad usage, 3 a bad line (the output says which and why) or no JSON report, 4 no memory, or
 reading or writing failed.
-The format of a trace: docs/man/witness-trace.5; of facts and grades: docs/man/witness-grade.5; of lines: docs/man/witness-import.1
+The format of a trace: docs/man/witness-trace.5; of facts and grades: docs/man/witness-grade.5; of recordings and findings:
+docs/man/witness-findings.5; of lines: docs/man/witness-import.1
 ";
 
 /// Says how the program is used, and gives the status of bad usage. The status alone tells it where

@@ -4,6 +4,7 @@
 
 mod complaints;
 mod demonstration;
+mod documents;
 mod program;
 mod progress;
 mod words;

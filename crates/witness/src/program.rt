@@ -3,31 +3,36 @@
 ghost use Rattle.std.specs.Prelude.{◌≡◌, ◌≢◌, ◌⊎◌, Ok, Err, IfOk, OnErr, None, Some};
 ghost use Rattle.std.specs.Io.KnownBytes.{Keeps};
 ghost use Rattle.wit_forecast.specs.Forecasts.{Forecasts};
+ghost use Rattle.wit_findings.specs.Findings.{Finds};
 ghost use Rattle.wit_grades.specs.Outputs.{Grades};
 ghost use Rattle.wit_migrate.specs.Again.{WritesTheSame};
 ghost use Rattle.wit_migrate.specs.Migrates.{Migrates};
 ghost use Rattle.wit_trace.specs.Replays.{ShowsTrace};
-ghost use Rattle.wit_trace.specs.declared.view.View.TheVariants.{Circle};
+ghost use Rattle.wit_trace.specs.declared.view.View.TheVariants.{Circle, Reports};
 ghost use Rattle.wit_stream.specs.Stream.{WritesFront, WritesOutput};
 ghost use Rattle.wit_command.specs.CommandLine.{asked, bytes_of};
 ghost use Rattle.wit_stream.specs.declared.summary.ReplayError.TheVariants as ReplayError;
 ghost use Rattle.wit_stream.specs.declared.summary.ReplayError.TheVariants.{Memory};
-ghost use Rattle.wit_command.specs.declared.command.Command.TheVariants.{Demo, Forecast, Grade};
+ghost use Rattle.wit_command.specs.declared.command.Command.TheVariants.{Demo, Findings, Forecast, Grade};
 ghost use Rattle.wit_command.specs.declared.command.Command.TheVariants.{Import};
 ghost use Rattle.wit_command.specs.declared.command.Command.TheVariants.{Migrate, Show};
+ghost use Rattle.wit_command.specs.declared.command.Command.TheVariants.{Write as Document};
+ghost use Rattle.wit_command.specs.declared.command.Form.{Form};
 ghost use Rattle.wit_command.specs.declared.command.Source.{Source};
 ghost use Rattle.wit_command.specs.declared.command.Source.TheVariants.{Plain};
 ghost use Rattle.witness.specs.declared.program.Ended.TheVariants.{Exits, ShowsThreads};
 ghost use Rattle.witness.specs.Program.{IsCutShort, IsGradedAndExits, IsGradingCut};
 ghost use Rattle.witness.specs.Program.{ImportsBy, IsImportedAndExits, IsImportCut, IsMigratedAndExits};
 ghost use Rattle.witness.specs.Program.{IsMigrationCut, IsOutputCut, IsShownAndExits};
-ghost use Rattle.witness.specs.Program.{IsWrittenAndExits, TellsGrades};
-ghost use Rattle.witness.specs.Program.{TellsImported, TellsLines, TellsMovedLines};
+ghost use Rattle.witness.specs.Program.{IsWrittenAndExits, IsWrittenOrRefused, TellsGrades};
+ghost use Rattle.witness.specs.Program.{TellsFindings, TellsImported, TellsLines, TellsMovedLines};
 
 use crate::complaints::{refuse, tell_counts};
+use crate::documents::write_document;
 use std::alloc::Global;
 use std::io::{BufRead, BufReader, Read, Write};
 use wit_command::{Command, Source, asked_command};
+use wit_findings::findings;
 use wit_forecast::forecast;
 use wit_grades::grade_facts;
 use wit_import::{Counts, import};
@@ -50,18 +55,18 @@ pub enum Ended {
 }
 
 /// Runs the program on the words behind its name, up to its exit status: where they ask for a view
-/// of the input, its migration, its forecast, its grades or its import, that of the replay, the
-/// migration, the forecast, the grading or the import; where they ask for nothing, 2. The demonstration
-/// is left to the caller.
+/// of the input, its migration, its forecast, its grades, its findings, a document or its import, that of the
+/// replay, the migration, the forecast, the grading, the findings, the document or the import; where they ask
+/// for nothing, 2. The demonstration is left to the caller.
 ///
 /// Only the input is read through a buffer: what is written is in the output when this returns.
 /// What goes to `complaints` is how the program is used, at status 2, and nothing else. What an import
-/// counts goes to `notes`.
+/// counts goes to `notes`, and that the input is no report.
 ///
 /// # Errors
-/// Those of `replay`, `migrate`, `forecast`, `grade_facts`, `import` and `import_traced`; and `Memory` where
-/// memory runs out before the first line is read. What was written is then a beginning of the output; where
-/// the reader failed it is the text of every whole line that was taken.
+/// Those of `replay`, `migrate`, `forecast`, `grade_facts`, `findings`, `write_document`, `import` and
+/// `import_traced`; and `Memory` where memory runs out before the first line is read. What was written is then a
+/// beginning of the output; where the reader failed it is the text of every whole line that was taken.
 pub fn run<R: Read + Drop, W: Write, N: Write, E: Write>(
     alloc: Global,
     words: &[Vec<u8>],
@@ -111,6 +116,18 @@ pub fn run<R: Read + Drop, W: Write, N: Write, E: Write>(
     ensures grades_told { asked (bytes_of words.now) ≡ Some Grade
         → result ≡ Err ReplayError.Read
         → TellsGrades (R.remaining input) (W.contents output.old) (W.contents output.new) }
+    ensures found { asked (bytes_of words.now) ≡ Some Findings
+        → IfOk result (IsWrittenAndExits Finds Reports (R.remaining input)
+        (W.contents output.old) (W.contents output.new)) }
+    ensures findings_cut { asked (bytes_of words.now) ≡ Some Findings
+        → OnErr result (IsOutputCut Finds (R.remaining input) (W.contents output.old)
+        (W.contents output.new)) }
+    ensures findings_told { asked (bytes_of words.now) ≡ Some Findings
+        → result ≡ Err ReplayError.Read
+        → TellsFindings (R.remaining input) (W.contents output.old) (W.contents output.new) }
+    ensures document { (form : Form) → asked (bytes_of words.now) ≡ Some (Document form)
+        → IfOk result (IsWrittenOrRefused (R.remaining input) (W.contents output.old)
+        (W.contents output.new)) }
     ensures imported { (source : Source) → asked (bytes_of words.now) ≡ Some (Import source)
         → IfOk result (IsImportedAndExits source (R.remaining input) (W.contents output.old)
         (W.contents output.new)) }
@@ -128,6 +145,8 @@ pub fn run<R: Read + Drop, W: Write, N: Write, E: Write>(
         Ok(Some(Command::Migrate)) => move_on(alloc, input, output),
         Ok(Some(Command::Forecast)) => forecast_trace(alloc, input, output),
         Ok(Some(Command::Grade)) => grade(alloc, input, output),
+        Ok(Some(Command::Findings)) => find(alloc, input, output),
+        Ok(Some(Command::Write(form))) => write_document(alloc, form, input, output, notes),
         Ok(Some(Command::Import(source))) => import_lines(alloc, source, input, output, notes),
         Ok(Some(Command::Demo)) => Ok(Ended::ShowsThreads),
         Ok(None) => Ok(Ended::Exits(refuse(complaints))),
@@ -288,6 +307,44 @@ fn grade_through_buffer<R: Read + Drop, W: Write>(
 {
     match BufReader::with_capacity(alloc, READ_AHEAD, input) {
         Ok(mut reader) => grade_facts(alloc, &mut reader, output),
+        Err(_) => Err(ReplayError::Memory),
+    }
+}
+
+// Tells what a recording shows, and says with which status to exit.
+fn find<R: Read + Drop, W: Write>(
+    alloc: Global,
+    input: R,
+    output: &mut W,
+) -> Result<Ended, ReplayError>
+    ensures found { IfOk result (IsWrittenAndExits Finds Reports
+        (R.remaining input) (W.contents output.old) (W.contents output.new)) }
+    ensures cut_short { OnErr result (IsOutputCut Finds
+        (R.remaining input) (W.contents output.old) (W.contents output.new)) }
+    ensures told { result ≡ Err ReplayError.Read → TellsFindings
+        (R.remaining input) (W.contents output.old) (W.contents output.new) }
+{
+    let found = find_through_buffer(alloc, input, output);
+    let status = status_of(View::Reports, &found);
+    let _summary = found?;
+    Ok(Ended::Exits(status))
+}
+
+// Tells what a recording shows, which is read through a buffer.
+fn find_through_buffer<R: Read + Drop, W: Write>(
+    alloc: Global,
+    input: R,
+    output: &mut W,
+) -> Result<Summary, ReplayError>
+    ensures ok { IfOk result (WritesOutput Finds
+        (R.remaining input) (W.contents output.old) (W.contents output.new)) }
+    ensures err { OnErr result (IsOutputCut Finds
+        (R.remaining input) (W.contents output.old) (W.contents output.new)) }
+    ensures told { result ≡ Err ReplayError.Read → TellsFindings
+        (R.remaining input) (W.contents output.old) (W.contents output.new) }
+{
+    match BufReader::with_capacity(alloc, READ_AHEAD, input) {
+        Ok(mut reader) => findings(alloc, &mut reader, output),
         Err(_) => Err(ReplayError::Memory),
     }
 }
