@@ -1,13 +1,13 @@
 /*
  * What the recorder writes and `record` reads, said once for both: the words of a stream, and those of the status that all
- * processes of a run share. docs/RECORDER.md tells what the lines mean. What changes here, or in what a line means, takes
+ * processes of a run share. recorder/README.md tells what the lines mean. What changes here, or in what a line means, takes
  * the next version: a stream of another one is told, and never misread.
  */
 #ifndef RECORDER_FORMAT_H
 #define RECORDER_FORMAT_H
 
 /* The first line of a stream is `asked 0 version N missed`, then the names of the counts, each with its count. */
-#define FORMAT_VERSION 7
+#define FORMAT_VERSION 8
 #define WORD_ASKED "asked"
 #define WORD_VERSION "version"
 #define WORD_MISSED "missed"
@@ -84,6 +84,17 @@ enum { ASKED_AT = 6, ASKED_NOT = '0', ASKED_NOW = '1', ASKED_ALWAYS = '3' };
  */
 #define PAIR_TELLINGS 8
 #define WORD_PAIR "pair"
+/* Its fields, from 0 on: where the words of its two locks begin, and which of these are a lock's serial number and its type. */
+enum { PAIR_HELD = 6, PAIR_ASKED = 10, PAIR_SERIAL = 1, PAIR_TYPE = 2 };
+/*
+ * What its thread got and let go since it had nothing (errand.h), of a pair that has the last letter: each lock that it got by
+ * its mode, with the second letter where it was tried, and each that it let go by the word. Or that not all of it is known.
+ */
+#define WORD_ERRAND "errand"
+#define ERRAND_LETS_GO "-"
+#define ERRAND_TRIED 't'
+#define ERRAND_CUT "cut"
+#define PAIR_HAS_ERRAND "y"
 #define WORD_MANY "many"
 #define WORD_LIFE "life"
 #define WORD_JOINED "joined"
@@ -137,7 +148,7 @@ enum { ASKED_AT = 6, ASKED_NOT = '0', ASKED_NOW = '1', ASKED_ALWAYS = '3' };
 #define STATUS_SEMAPHORES "semaphores"
 enum { STATUS_BYTES = 1 << 20, STATUS_DIGITS = 7 };
 
-/* Of the locks of one call, or of one allocation, so many offsets in blocks are types of their own (docs/RECORDER.md). */
+/* Of the locks of one call, or of one allocation, so many offsets in blocks are types of their own (docs/names.md). */
 enum { OFFSETS_MOST = 16 };
 
 /*

@@ -67,8 +67,8 @@ fi
 # A table with little room: what isn't known of locks is told, and they are as without the option. A large one knows all.
 if wanted fewblocks; then
     copy_recorder few
-    sed 's/LINE_BITS = 19,/LINE_BITS = 12,/; s/UNITS_BITS = 24,/UNITS_BITS = 17,/' "$recorder/blocks.c" >few/blocks.c
-    [ "$(diff "$recorder/blocks.c" few/blocks.c | grep -c '^>')" -eq 1 ] && few/record -- true 2>/dev/null
+    sed 's/LINE_BITS = 19,/LINE_BITS = 12,/; s/UNITS_BITS = 24,/UNITS_BITS = 17,/' "$recorder/runtime/blocks.c" >few/runtime/blocks.c
+    [ "$(diff "$recorder/runtime/blocks.c" few/runtime/blocks.c | grep -c '^>')" -eq 1 ] && few/record -- true 2>/dev/null
     tell fewblocks "a small table is built" $?
     compile blocks
     few/record --blocks -- ./blocks lost 2>recorded.err

@@ -4,7 +4,7 @@
  * callers that took it. In the end the tables are empty. With MANY each thread first keeps so many blocks, more than there is
  * room for: then some aren't known, and what is known is right.
  */
-#include "../blocks.c"
+#include "../runtime/blocks.c"
 
 #include <stdio.h>
 

@@ -3,14 +3,14 @@
 
 # plant_small TO: the scripts and the Makefile as they are, and small sources. All is older than what will be built, and nothing is.
 plant_small() {
-    rm -rf "$1" cache && mkdir -p "$1/command" "$1/malloc" && cp -R "$recorder/build" "$recorder/record" "$recorder/orders" "$recorder/duty" "$recorder/Makefile" "$1"
-    : >"$1/command/page.css" && : >"$1/format.h" && : >"$1/recorder.h"
-    printf '%s\n' '#include "recorder.h"' 'int is_recorder(void) { return 1; }' >"$1/start.c"
-    echo 'int has_hooks(void) { return 1; }' >"$1/malloc/hooks.c"
+    rm -rf "$1" cache && mkdir -p "$1/run" "$1/symbols" "$1/reports" "$1/runtime/malloc" && cp -R "$recorder/build" "$recorder/record" "$recorder/orders" "$recorder/duty" "$recorder/Makefile" "$1"
+    : >"$1/format.h" && : >"$1/runtime/recorder.h"
+    printf '%s\n' '#include "recorder.h"' 'int is_recorder(void) { return 1; }' >"$1/runtime/start.c"
+    echo 'int has_hooks(void) { return 1; }' >"$1/runtime/malloc/hooks.c"
     cp "$duty" "$1"
-    printf '%s\n' '__asm__(".incbin \"page.css\"");' 'extern int has_page;' >"$1/command/page.c"
-    printf '%s\n' '#include <stdio.h>' '#include "../format.h"' \
-        'int main(int count, char **words) { return count > 2 && printf("%s in %s\n", words[2], words[1]) < 0; }' >"$1/command/main.c"
+    echo 'extern int has_page;' >"$1/reports/page.c"
+    printf '%s\n' '#include <stdio.h>' '#include "format.h"' \
+        'int main(int count, char **words) { return count > 2 && printf("%s in %s\n", words[2], words[1]) < 0; }' >"$1/run/main.c"
     find "$1" -exec touch -d '2 seconds ago' {} +
 }
 
@@ -97,8 +97,8 @@ if wanted builds; then
     built small/orders one
     [ "$status" -eq 0 ] && echo "--orders in $work/small" | diff - built.out && [ ! -s made ]
     tell builds "the command by its other name" $?
-    for line in 'start.c start.o recorder.so' 'malloc/hooks.c hooks.o blocks.so' 'recorder.h start.o recorder.so' 'command/main.c main.o record' \
-        'command/page.css page.o record' 'format.h main.o record' 'build ' 'duty ' 'libwit_condensed_c.a ' "Makefile $of_all"; do
+    for line in 'runtime/start.c start.o recorder.so' 'runtime/malloc/hooks.c hooks.o blocks.so' 'runtime/recorder.h start.o recorder.so' 'run/main.c main.o record' \
+        'reports/page.c page.o record' 'format.h main.o record' 'build ' 'duty ' 'libwit_condensed_c.a ' "Makefile $of_all"; do
         plant_small small && built small/build
         later "small/${line%% *}"
         built small/build
@@ -106,10 +106,15 @@ if wanted builds; then
         tell builds "what a newer ${line%% *} is in" $?
     done
     plant_small small && built small/build && rm -rf moved && cp -Rp small moved
-    later moved/recorder.h
+    later moved/runtime/recorder.h
     built moved/build
     made_are "$work/moved/out" start.o recorder.so
     tell builds "what a newer header is in, where all was moved" $?
+    plant_small small && built small/build && sed -i 's#runtime/start\.c#elsewhere/start.c#' small/out/objects/runtime/start.d
+    later small/runtime/start.c
+    built small/build
+    made_are "$work/small/out" start.o recorder.so
+    tell builds "what a source is in that stood elsewhere" $?
     plant_small small && built small/build
     printf x >>small/libwit_condensed_c.a
     later small/libwit_condensed_c.a
@@ -143,7 +148,7 @@ if wanted builds; then
     tell builds "no make" $?
     built small/build && rm small/out/recorder.so
     : >refuses
-    later small/start.c
+    later small/runtime/start.c
     built small/build
     refused_as "the recorder wasn't built" && is_left small/out record blocks.so built.blocks.so.record libwit_condensed_c.a lock
     tell builds "a compiler that makes nothing of a part" $?
@@ -205,7 +210,7 @@ theirs() {
 # What others could have written is neither run nor loaded.
 if wanted builds; then
     for way in 'out/record o+w' 'out/record g+w' 'out/record owner' 'out/record link' 'out/recorder.so g+w' 'out/recorder.so owner' \
-        'out/blocks.so o+w' 'out/objects/command/main.o owner' 'out/objects/command/main.o o+w' 'out o+w' 'out g+w' 'out link'; do
+        'out/blocks.so o+w' 'out/objects/run/main.o owner' 'out/objects/run/main.o o+w' 'out o+w' 'out g+w' 'out link'; do
         plant_small small && built small/build
         file=small/${way% *}
         case $way in
@@ -287,7 +292,7 @@ if wanted builds; then
         built $user small/build
         made_are "$work/small/out" && is_left cache ''
         tell builds "what another user has built" $?
-        later small/command/main.c
+        later small/run/main.c
         built $user small/build
         made_are "$cache" $of_all
         tell builds "all in this user's cache where a source is newer" $?

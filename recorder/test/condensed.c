@@ -4,7 +4,7 @@
  * are compared with what the header says, as it is reckoned here pair by pair. What isn't right is told, and the status is
  * 1 then.
  */
-#include "../condensed.h"
+#include "../runtime/condensed.h"
 
 #include <stdio.h>
 #include <stdlib.h>

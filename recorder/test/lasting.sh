@@ -80,9 +80,9 @@ ANY
 fi
 
 if wanted locked; then
-    "${CC:-cc}" -std=c11 -D_GNU_SOURCE -g -O1 -fsanitize=address,undefined -fno-sanitize-recover=undefined -Wall -Wextra -Werror \
-        -I"$recorder/command" -o locked "$here/locked.c" \
-        "$recorder/command/locked.c" "$recorder/command/call_words.c" "$recorder/command/source_text.c" "$recorder/command/memory.c" &&
+    in_folders "${CC:-cc}" -std=c11 -D_GNU_SOURCE -g -O1 -fsanitize=address,undefined -fno-sanitize-recover=undefined -Wall -Wextra -Werror \
+        -o locked "$here/locked.c" \
+        "$recorder/symbols/lock_expression.c" "$recorder/symbols/call_words.c" "$recorder/symbols/source_text.c" "$recorder/run/memory.c" &&
         grep -v '^  ' "$here/locked.want" | ./locked | diff "$here/locked.want" -
     tell locked "the lock that a source line names" $?
 fi

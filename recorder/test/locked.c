@@ -7,7 +7,7 @@
 #include <string.h>
 
 #include "call_words.h"
-#include "locked.h"
+#include "lock_expression.h"
 
 static void print_locked(const char *text)
 {

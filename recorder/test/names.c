@@ -3,7 +3,7 @@
 #include <stdlib.h>
 #include <string.h>
 
-#include "names.h"
+#include "source_names.h"
 
 static void print_short(const char *name)
 {

@@ -8,20 +8,17 @@ build_driver() {
     compiler=$1
     folder=$2
     shift 2
-    sources=
-    for module in alarms describe escape findings hang html html_card html_list html_parts json layout layout_rows map memory notes objects \
-        order_parts orders page picture place place_words report report_orders sarif sarif_place sarif_result single texts thread_label; do
-        sources="$sources $recorder/command/$module.c"
-    done
-    mkdir -p "$folder" && (cd "$folder" && "$compiler" -std=c11 -D_GNU_SOURCE -g -Wall -Wextra -Werror \
-        -I "$recorder/command" "$@" -o driver "$here/outputs/driver.c" $sources)
+    sources=$(source_of alarms describe dot_text escape files findings hang json json_place map memory notes json_writer process_orders pictures place place_words \
+        report report_orders schedule single sources texts verdict)
+    mkdir -p "$folder" && (cd "$folder" && in_folders "$compiler" -std=c11 -D_GNU_SOURCE -g -Wall -Wextra -Werror \
+        "$@" -o driver "$here/outputs/driver.c" $sources)
 }
 
 # written CASE: CASE.html, CASE.json and CASE.sarif of CASE.case.
 written() {
-    for kind in html json sarif; do
-        built/driver $kind "$1.case" >"$1.$kind" 2>driver.err && [ ! -s driver.err ] || { cat driver.err && return 1; }
-    done
+    built/driver report "$1.case" >"$1.json" 2>driver.err && built/driver pictures "$1.case" 2>>driver.err >"$1.drawn" &&
+        "$WITNESS" html <"$1.drawn" >"$1.html" 2>>driver.err && "$WITNESS" sarif <"$1.json" >"$1.sarif" 2>>driver.err &&
+        [ ! -s driver.err ] || { cat driver.err && return 1; }
 }
 
 # fits FILE SCHEMA: whether it meets the schema, where something is there that can tell.
@@ -119,7 +116,7 @@ test_runs() {
         is run.json reports.# 2 reports.0.kind '"duplicate"' reports.0.silenced false reports.1.silenced true \
             reports.0.single.grade '"types"' reports.0.counts false \
             reports.0.advice.0 '"No single locks were taken both ways: ask whether another run can take them the other way round."' &&
-        grep -q "Two locks of one type, which doesn&#39;t count for the status" run.html &&
+        grep -q "Two locks of one type, which doesn't count for the status" run.html &&
         is run.sarif runs.0.results.0.level '"note"' runs.0.results.1.level '"warning"'
     tell outputs "of one that it silences" $?
     recorded_to run -- timeout -s KILL 3 ./deadlock
@@ -152,7 +149,7 @@ test_runs() {
         mv reversal.c away.c && recorded_to run -- ./moved && grep -q "Its source isn't here" run.html
     tell outputs "sources that are newer, or gone" $?
     mv away.c reversal.c && mkfifo pipe.c && sed 's/reversal.c:1/pipe.c:1/' kinds.case >pipe.case &&
-        timeout 100 built/driver html pipe.case | grep -q "Its source isn't here"
+        timeout 100 built/driver report pipe.case | "$WITNESS" html | grep -q "Its source isn't here"
     tell outputs "a source that is a pipe by now isn't waited for" $?
     for line in "--html" "--json . true" "--sarif /nowhere/x true"; do
         recorded_by "$record" $line
@@ -201,9 +198,17 @@ if wanted outputs; then
         python3 "$check" same kinds.json moved.json && python3 "$check" same kinds.sarif moved.sarif &&
             ! python3 "$check" same kinds.json other.json >/dev/null
         tell outputs "fingerprints last where lines move, and not where functions and locks are others" $?
-        python3 "$check" picture kinds.html && python3 "$check" picture many.html && python3 "$check" picture odd.html
-        tell outputs "pictures of orders" $?
-        python3 "$check" page many.html && python3 "$check" contrast "$recorder/command/page.css"
+        if command -v dot >/dev/null; then
+            python3 "$check" picture kinds.html 7 18 && python3 "$check" picture many.html 1 102 && python3 "$check" picture odd.html 2 4
+            tell outputs "pictures of orders" $?
+        else
+            echo "left out  outputs: there is no dot, so there are no pictures"
+        fi
+        "$WITNESS" html <kinds.json >plain.html && python3 "$check" page plain.html && grep -q '<details open><summary>The orders as a table' plain.html
+        tell outputs "and a table where there is none" $?
+        "$WITNESS" html <"$here/../../tests/reports/hang.json" >hang.html && python3 "$check" schedule hang.html
+        tell outputs "how threads could have come to hang, as a table" $?
+        python3 "$check" page many.html && python3 "$check" contrast many.html
         tell outputs "a page that all can read" $?
         test_runs
     fi
@@ -212,7 +217,7 @@ if wanted outputs; then
     if [ -z "$browser" ] || ! opened empty.html || ! [ -f kinds.html ]; then
         echo "left out  outputs: there is no Chromium that runs here"
     else
-        opened kinds.html && [ ! -s console ] && grep -q '<svg' opened && grep -q '<html lang="en" class="works">' opened
+        opened kinds.html && [ ! -s console ] && grep -q '<img' opened && grep -q '<html lang="en" class="works">' opened
         tell outputs "a browser opens the page, with its picture, and complains of nothing" $?
         opened odd.html && [ ! -s console ] && opened nothing.html && [ ! -s console ] &&
             grep -q '<p class="good">nothing to report: no thread' opened

@@ -70,8 +70,8 @@ if wanted tells; then
     tell tells "a hundred random runs of one thread after the other${missing:+: not$missing}" $?
     # One that doesn't write a request after just two held locks.
     copy_recorder omitting
-    sed 's/^    uint32_t asked = type_number(type);$/&\n    if (thread->count == 2)\n        return true;/' "$recorder/quick.h" >omitting/quick.h
-    ! cmp -s "$recorder/quick.h" omitting/quick.h && omitting/record -- true 2>/dev/null && [ -f omitting/out/recorder.so ]
+    sed 's/^    uint32_t asked = type_number(type);$/&\n    if (thread->count == 2)\n        return true;/' "$recorder/runtime/quick.h" >omitting/runtime/quick.h
+    ! cmp -s "$recorder/runtime/quick.h" omitting/runtime/quick.h && omitting/record -- true 2>/dev/null && [ -f omitting/out/recorder.so ]
     planted=$?
     object=$work/omitting/out/recorder.so
     [ $planted -eq 0 ] && tells_all ./pairs 4 2 1000 >/dev/null && ! tells_all ./random 1 clean turns >/dev/null
@@ -79,8 +79,8 @@ if wanted tells; then
     # One that leaves out the fifth line of a kind, or the first one that tells of a request given up: it is the only one of its run.
     copy_recorder lacking
     sed 's/^    const char \*from = stream.line;$/&\n    static int spared;\n    const char *kind = getenv("LEFT_OUT");\n    if (kind \&\& strncmp(from, kind, strlen(kind)) == 0 \&\& spared++ == atoi(getenv("SPARED"))) {\n        stream.length = 0;\n        return;\n    }/' \
-        "$recorder/stream.c" >lacking/stream.c
-    ! cmp -s "$recorder/stream.c" lacking/stream.c && lacking/record -- true 2>/dev/null && [ -f lacking/out/recorder.so ]
+        "$recorder/runtime/stream.c" >lacking/runtime/stream.c
+    ! cmp -s "$recorder/runtime/stream.c" lacking/runtime/stream.c && lacking/record -- true 2>/dev/null && [ -f lacking/out/recorder.so ]
     planted=$?
     object=$work/lacking/out/recorder.so
     [ $planted -eq 0 ] && record_both ./random 1 clean turns && both_agree

@@ -49,7 +49,7 @@ if wanted nodebug; then
         for level in -O0 -O2; do
             cp "$here/nodebug.c" . && $compiler $level -fno-optimize-sibling-calls -pthread -o nodebug nodebug.c
             "$record" --frames 8 --gen-suppressions -- ./nodebug 2>recorded.err
-            sed 's/+0x[0-9a-f]*/+0xN/g; s/threads* [0-9][0-9]*/thread N/' recorded.err | grep -v '^  main\|^  renders' >reports
+            sed 's/+0x[0-9a-f]*/+0xN/g; s/threads* [0-9][0-9]*/thread N/g' recorded.err | grep -v '^  main\|^  renders' >reports
             grep -v '^  main\|^  renders' "$here/nodebug.want" | diff - reports
             tell nodebug "a report by functions ($compiler $level)" $?
             sed -n 's/^"/"/p' recorded.err >list && "$record" --ignore list -- ./nodebug 2>&1 | tail -n 1 >reports

@@ -13,9 +13,9 @@ file_of() {
 pairs_of() {
     file_of ./facts "$@"
     awk '$1 == "type" && $3 == "variable" { name[$2] = $6; within[$2] = $7 }
-        $1 == "pair" && name[$8] == "pool" && name[$12] == "journal" {
-            printf "%s", $13
-            for (i = 14; i < NF; i += 4) printf " %s+%s:%s", name[$(i + 2)], within[$(i + 2)], $(i + 3)
+        $1 == "pair" && name[$9] == "pool" && name[$13] == "journal" {
+            printf "%s", $14
+            for (i = 15; i < NF; i += 4) printf " %s+%s:%s", name[$(i + 2)], within[$(i + 2)], $(i + 3)
             print ""
         }' lines
 }
@@ -60,9 +60,9 @@ if wanted facts; then
     for count in 1 2000; do
         fact "a pair that is asked for $count times" x known $count
     done
-    fact "what is held besides, each time" "x table+0:x other+0:x other+28:x other+50:x
-x table+0:x other+0:x other+28:x
-x table+0:s
+    fact "what is held besides, each time" "xy table+0:x other+0:x other+28:x other+50:x
+xy table+0:x other+0:x other+28:x
+xy table+0:s
 x" shrinks
     fact "of five threads three" "x
 x
@@ -79,7 +79,7 @@ xr
 xr" anew 10
     # Half of the numbers of locks are for what the trace needs.
     pairs_of spent 17000 >pairs
-    [ "$(awk '$1 == "pair" { pairs++; numberless += $6 == 0 && $10 == 0; typed += $8 > 0 && $12 > 0 }
+    [ "$(awk '$1 == "pair" { pairs++; numberless += $7 == 0 && $11 == 0; typed += $9 > 0 && $13 > 0 }
         END { print pairs, (numberless > 500), (typed == pairs) }' lines)" = "17002 1 1" ]
     tell facts "the types of locks that have no numbers" $?
     RECORD_FRAMES=8 "$record" --quiet -- ./facts spent 17000 2>recorded.err
@@ -87,10 +87,41 @@ xr" anew 10
     tell facts "what is told of locks that have no numbers" $?
 fi
 
+# errands_in FILE: its lines of errands, with the variables' names in place of the locks' numbers, and without places.
+errands_in() {
+    tr -d '\000' <"$1" | awk '$1 == "type" && $3 == "variable" { name[$2] = $6 }
+        $1 == "pair" { lock[$8] = name[$9]; lock[$12] = name[$13] }
+        $1 == "errand" { line[++lines] = $0 }
+        END {
+            for (i = 1; i <= lines; i++) {
+                count = split(line[i], word, " ")
+                for (at = 3; at < count; at += word[at] == "-" ? 2 : 3)
+                    printf "%s%s ", word[at] == "-" ? "-" : word[at] ":", lock[word[at + 1]]
+                print count == 3 ? word[3] : "."
+            }
+        }'
+}
+
+if wanted errands; then
+    compile errands
+    "$record" -- true 2>/dev/null
+    file_of ./errands
+    errands_in "$(grep -la '^errand [0-9]* x ' records/*.0)" >told
+    echo "x:a x:b -b .
+x:a x:b -b s:r -a xt:b .
+x:a x:b -b s:r -a xt:b x:c -r .
+x:a x:b -b s:r -a xt:b x:c -r x:a -b -c .
+x:d x:c ." | diff - told
+    tell errands "what a thread got and let go, in its sequence" $?
+    errands_in "$(grep -la '^errand [0-9]* cut$' records/*.0)" >told
+    echo cut | diff - told
+    tell errands "of a child that holds what its parent held" $?
+fi
+
 # A recorder that keeps 100 pairs.
 if wanted filled; then
     compile facts
-    copy_recorder few && sed 's/PAIRS_MOST = 1000000/PAIRS_MOST = 100/' "$recorder/single_pairs.c" >few/single_pairs.c &&
+    copy_recorder few && sed 's/PAIRS_MOST = 1000000/PAIRS_MOST = 100/' "$recorder/runtime/single_pairs.c" >few/runtime/single_pairs.c &&
         RECORD_FRAMES=8 few/record --quiet --error-exitcode 9 --alarms threads -- ./facts spent 200 2>recorded.err
     [ $? -eq 9 ] && grep -qx 'single locks: not known, there were more orders of such locks than are kept' recorded.err
     tell filled "what is told where there are more pairs than there is room for" $?
@@ -117,7 +148,7 @@ if wanted seats; then
 fi
 
 if wanted torn; then
-    cp "$here/torn.c" . && sed "s#\.\./single_pairs.c#$recorder/single_pairs.c#" "$here/torn.c" >torn.c
+    cp "$here/torn.c" . && sed "s#\.\./runtime/single_pairs.c#$recorder/runtime/single_pairs.c#" "$here/torn.c" >torn.c
     for by in "-O2" "-O1 -fsanitize=thread"; do
         "${CC:-cc}" -std=c11 -D_GNU_SOURCE -g -Wall -Wextra $by -I"$recorder" -pthread -o torn torn.c 2>told.err || {
             [ "$by" = -O2 ] || { echo "left out  torn: there is no ThreadSanitizer" && continue; }

@@ -3,7 +3,7 @@
  * widened meanwhile. Each keeps what it asked for. In the end each request has to be one of which the table tells: by its
  * thread or by many, and with no lock held besides that it lacked. What the lines tell has to be what the table has.
  */
-#include "../single_pairs.c"
+#include "../runtime/single_pairs.c"
 
 #include <stdio.h>
 #include <stdlib.h>
@@ -36,7 +36,7 @@ struct told_pair {
 static struct told_pair *line;
 static uint32_t lines;
 
-void write_pair(const struct request *request, const struct held *held, const struct single_pair *pair, bool again)
+void write_pair(struct request *request, const struct held *held, const struct single_pair *pair, bool again)
 {
     struct told_pair *next = &line[lines++];
     if (lines == LINES || again)

@@ -35,8 +35,8 @@ if wanted words; then
     tells_as reversal.told "./$deep/reversal"
     tell words "a path of more than 3,600 bytes" $?
     copy_recorder short
-    sed 's/LINE_MOST = 1 << 14/LINE_MOST = 1 << 9/' "$recorder/stream.c" >short/stream.c
-    cmp -s "$recorder/stream.c" short/stream.c
+    sed 's/LINE_MOST = 1 << 14/LINE_MOST = 1 << 9/' "$recorder/runtime/stream.c" >short/runtime/stream.c
+    cmp -s "$recorder/runtime/stream.c" short/runtime/stream.c
     [ $? -eq 1 ] && short/record -- "./$deep/reversal" 2>&1 | told >recorded.err &&
         grep -q '^record: reversal: not recorded: 1 lines (a name was too long for them)$' recorded.err &&
         grep -q '^ 1st "journal" (sleep mutex) in checkpoint$' recorded.err

@@ -7,14 +7,20 @@
   odd PAGE JSON SARIF    the texts of odd.case, as texts
   page FILE              the page is whole: its elements, names, references; nothing comes from outside
   shown FILE             that, and what kinds.case has
-  picture FILE           boxes and labels lie apart and within the picture; arrows go from box to box
+  picture FILE N M       the page has N pictures: SVG that runs and fetches nothing; M arrows in all, those of reports red and dashed
   is FILE PATH VALUE     what stands in JSON at a path as reports.0.kind; `#` at its end is a number of things
-  contrast CSS           each colour of a text is far enough from its ground, in the light and in the dark
+  schedule FILE          the table of how threads could have come to hang, of tests/reports/hang.json
+  contrast FILE          each colour of a text is far enough from its ground, in the light and in the dark
 """
+import base64
+import hashlib
+import html
 import html.parser
 import json
 import re
 import sys
+import urllib.parse
+import xml.etree.ElementTree
 
 faults = []
 
@@ -131,7 +137,7 @@ def same(one, other):
 
 class Page(html.parser.HTMLParser):
     """The elements of a page, each as its name, its attributes, and its text."""
-    void = {"meta", "link", "input", "br", "rect", "path"}
+    void = {"meta", "link", "input", "br", "img"}
 
     def __init__(self, path):
         super().__init__(convert_charrefs=True)
@@ -172,28 +178,28 @@ def page(path):
     found = Page(path)
     names = {each[0] for each in found.elements}
     known = set("""html head meta title link style body a header h1 h2 h3 h4 p nav ul ol li main form label input select option
-        section article div code pre span mark details summary button table thead tbody tr th td svg g rect path text b footer
-        script""".split())
+        section article div code pre span mark details summary button table thead tbody tr th td img b footer script""".split())
     want("unknown elements", names - known, set())
     ids = [each[1]["id"] for each in found.elements if "id" in each[1]]
     want("equal ids", sorted(ids), sorted(set(ids)))
     for tag, attributes, text in found.elements:
         for name in attributes:
-            want(f"{name} of <{tag}>", name.startswith("on") or name in ("style", "src", "srcdoc", "action"), False)
+            want(f"{name} of <{tag}>", name.startswith("on") or name in ("style", "srcdoc", "action"), False)
+            want(f"{name} of <{tag}>", name != "src" or (tag == "img" and drawing_of(attributes) is not None), True)
         for name in ("aria-labelledby", "for"):
             want(f"{name} of <{tag}>", attributes.get(name, ids[0]) in ids, True)
         if tag == "a":
             want("a link", attributes["href"][0] == "#" and attributes["href"][1:] in ids, True)
         if tag in ("input", "select"):
             want(f"id of <{tag}>", "id" in attributes, True)
-        if tag == "svg":
-            want("role of the picture", (attributes.get("role"), "aria-labelledby" in attributes), ("img", True))
-        if tag in ("script", "style"):
-            want(f"nonce of <{tag}>", re.fullmatch("[0-9a-f]{32}", attributes.get("nonce", "")) is not None, True)
+        if tag == "img":
+            want("words for the picture", attributes.get("alt", "") != "", True)
     for tag in ("script", "style", "link", "h1"):
         want(f"number of <{tag}>", len(found.all(tag)), 1)
     policy = [each[1]["content"] for each in found.all("meta") if each[1].get("http-equiv") == "Content-Security-Policy"]
-    want("policy", policy and policy[0].startswith("default-src 'none';"), True)
+    sums = [base64.b64encode(hashlib.sha256(found.all(tag)[0][2].encode()).digest()).decode() for tag in ("style", "script")]
+    want("policy", policy, [f"default-src 'none'; img-src data:; style-src 'sha256-{sums[0]}'; script-src 'sha256-{sums[1]}'; "
+                            "base-uri 'none'; form-action 'none'"])
     want("language", found.all("html")[0][1].get("lang"), "en")
     before = 1
     for tag, _, text in found.elements:
@@ -231,14 +237,6 @@ def shown(path):
         each = next(card for card in cards if card[1]["data-kind"] == kind)
         advice = re.search(r"What to do(.*?)(The line for|$)", re.sub(r"\s+", " ", each[2])).group(1)
         want(f"sentences for {kind}", len(re.findall(r"[.](?: |$)", advice.strip())), 3)
-    pictures = [each[0] == "svg" for each in found.elements]
-    want("pictures, of six reports and two parts of the orders", sum(pictures), 8)
-    # Each report of orders has one: which types are its boxes, and what goes against the orders.
-    for kind, words in (("circle", ["pool", "journal"]), ("self", ["queue"]), ("reversal", ["pool", "journal"])):
-        start = found.elements.index(next(card for card in cards if card[1]["data-kind"] == kind))
-        drawn = next(each for each in found.elements[start:] if each[0] == "svg")
-        boxes = [word for word in words if word not in drawn[2]]
-        want(f"boxes in the picture of a {kind}", boxes, [])
     entries = [re.sub(r"\s+", " ", each[2]).strip() for each in found.all("tr")]
     want("the list of all reports", entries[1:8], [
         "1Lock order reversaljournal, poolyes", "2Two locks of one typemake(mutex)<main(page[])yes",
@@ -272,46 +270,56 @@ def odd(page_path, json_path, sarif_path):
          "dir%20with%20space/%3Codd%3E%26%22file%22.c")
 
 
-def numbers(text):
-    return [float(each) for each in re.findall(r"-?\d+(?:\.\d+)?", text)]
+SVG = "{http://www.w3.org/2000/svg}"
 
 
-def picture(path):
-    """Each picture of the page: those of reports, and, behind the heading of the orders, their parts."""
+def drawing_of(attributes):
+    """The root of the picture of an image; None where it isn't a part of the page."""
+    head = "data:image/svg+xml,"
+    if not attributes["src"].startswith(head):
+        return None
+    return xml.etree.ElementTree.fromstring(urllib.parse.unquote(attributes["src"][len(head):], errors="strict"))
+
+
+def drawn_arrows(root):
+    """Of each arrow of a picture its types, whether it is red, and whether it is dashed."""
+    for group in root.iter(SVG + "g"):
+        if group.get("class") == "edge":
+            line = group.find(SVG + "path")
+            yield group.find(SVG + "title").text, line.get("stroke") == "red", line.get("stroke-dasharray") is not None
+
+
+def picture(path, pictures, arrows):
+    """The pictures of the page, by what dot makes of orders."""
     found = Page(path)
-    whole = found.elements
-    orders = next(number for number, each in enumerate(whole) if each[1].get("id") == "orders")
-    pictures = [number for number, each in enumerate(whole) if each[0] == "svg"] + [len(whole)]
-    want("pictures", len(pictures) > 1, True)
-    for begin, end in zip(pictures, pictures[1:]):
-        found.elements = whole[begin:end]
-        drawn(found, whole[begin], begin > orders)
+    roots = [drawing_of(each[1]) for each in found.all("img")]
+    want("pictures", len(roots), int(pictures))
+    for root in roots:
+        want("elements", {each.tag for each in root.iter()} - {SVG + name for name in ("svg", "g", "title", "polygon", "path", "text")}, set())
+        names = {name for each in root.iter() for name in each.attrib}
+        want("attributes", [name for name in names if name.startswith("on") or "href" in name or name == "style"], [])
+    drawn = [arrow for root in roots for arrow in drawn_arrows(root)]
+    want("arrows", len(drawn), int(arrows))
+    want("what is dashed is red", [each for each in drawn if each[2] and not each[1]], [])
+    want("what goes against orders", any(each[2] for each in drawn), True)
 
 
-def drawn(found, drawing, is_of_orders):
-    width, height = float(drawing[1]["width"]), float(drawing[1]["height"])
-    boxes = []
-    for _, at, _ in found.all("rect"):
-        boxes.append(tuple(float(at[name]) for name in ("x", "y", "width", "height")))
-    areas = list(boxes)
-    for _, at, _ in found.all("text"):
-        if "label" in at.get("class", ""):
-            areas.append((float(at["x"]), float(at["y"]) - 9, float(at["textlength"]), 12))
-    for i, (x, y, w, h) in enumerate(areas):
-        want("within the picture", x >= 0 and y >= 0 and x + w <= width and y + h <= height, True)
-        for x2, y2, w2, h2 in areas[:i]:
-            apart = x + w <= x2 or x2 + w2 <= x or y + h <= y2 or y2 + h2 <= y
-            want(f"apart: {(x, y, w, h)} and {(x2, y2, w2, h2)}", apart, True)
-    arrows = [at for _, at, _ in found.all("path") if at["class"].startswith("arrow")]
-    tips = [at for _, at, _ in found.all("path") if at["class"].startswith("tip")]
-    want("tips", len(tips), len(arrows))
-    for arrow, tip in zip(arrows, tips):
-        begin, end = numbers(arrow["d"])[:2], numbers(tip["d"])[:2]
-        for x, y in (begin, end):
-            at_box = [1 for x2, y2, w2, h2 in boxes if x2 <= x <= x2 + w2 and min(abs(y - y2), abs(y - y2 - h2)) < 0.2]
-            want(f"a box at {x}, {y}", len(at_box), 1)
-        if is_of_orders:
-            want("an order goes down, and what goes against it up", end[1] > begin[1], "reversal" not in arrow["class"])
+def schedule(path):
+    source = page(path).source
+    table = re.search(r"<table class='schedule'>(.*?)</table>", source, re.S).group(1)
+    parted = table.replace("<code class='line'>", " | ")
+    rows = [[html.unescape(re.sub("<.*?>", "", cell)) for cell in re.findall(r"<t[hd][^>]*>(.*?)</t[hd]>", row)]
+            for row in re.findall(r"<tr.*?</tr>", parted)]
+    want("rows", rows, [
+        ["Thread 8", "Thread 9"],
+        ["gets journal at hang.c:9 |     pthread_mutex_lock(&journal);", ""],
+        ["", "gets pool at hang.c:19 |     if (count < 2) pthread_mutex_lock(&pool);"],
+        ["waits for pool at hang.c:10 \u2192 held by Thread 9 |     pthread_mutex_lock(&pool);", ""],
+        ["", "waits for journal at hang.c:20 \u2190 held by Thread 8 |     pthread_mutex_lock(&journal);"]])
+    want("escaped lines", "if (count &lt; 2) pthread_mutex_lock(&amp;pool);" in table, True)
+    want("marked rows", [bool(each) for each in re.findall(r"<tr( class='rests')?>", table)], [False, False, True, False, False])
+    want("what it rests on", "The schedule rests on the marked rows" in source, True)
+    want("and what isn't known", "No values were recorded" in source, True)
 
 
 def value(path, way, wanted):
@@ -328,8 +336,7 @@ def light(colour):
 
 
 def contrast(path):
-    with open(path, encoding="utf-8") as file:
-        css = file.read()
+    css = Page(path).all("style")[0][2]
     schemes = [dict(re.findall(r"--([\w-]+):\s*(#[0-9a-f]{6})", each)) for each in re.findall(r":root \{(.*?)\}", css, re.S)]
     want("schemes", len(schemes), 3)
     for scheme in schemes:
@@ -343,7 +350,7 @@ def contrast(path):
 
 def main():
     what = {"schema": schema, "json": findings, "sarif": sarif, "same": same, "page": page, "shown": shown, "odd": odd, "is": value,
-            "picture": picture, "contrast": contrast}[sys.argv[1]]
+            "picture": picture, "schedule": schedule, "contrast": contrast}[sys.argv[1]]
     what(*sys.argv[2:])
     for fault in faults:
         print(fault)

@@ -1,5 +1,5 @@
 /*
- * driver html|json|sarif CASE: writes the findings of a case as a page, as JSON or as SARIF on standard output.
+ * driver report|pictures CASE: writes the JSON report of a case on standard output, without pictures or with them.
  *
  * A case has a line for each thing, in which fields are parted by tabs, and \xHH is that byte. An empty field is: not known.
  *   program NAME, directory NAME, ignore NAME, version NAME, kit NAME, words WORDS, built SECONDS   of the whole run
@@ -18,10 +18,9 @@
 #include <string.h>
 
 #include "findings.h"
-#include "html.h"
 #include "json.h"
 #include "memory.h"
-#include "sarif.h"
+#include "pictures.h"
 
 enum { FIELDS = 40 };
 
@@ -196,11 +195,8 @@ int main(int count, char **words)
     if (!from || !read_case(from))
         return 2;
     fclose(from);
-    if (!strcmp(words[1], "html"))
-        html_write(stdout, &findings);
-    else if (!strcmp(words[1], "json"))
-        json_write(stdout, &findings);
-    else
-        sarif_write(stdout, &findings);
+    if (!strcmp(words[1], "pictures"))
+        pictures_draw(&findings);
+    json_write(stdout, &findings);
     return 0;
 }

@@ -1,0 +1,22 @@
+/*
+ * What `witness` makes of a JSON report: a page, or a log of SARIF.
+ */
+#ifndef RECORD_DOCUMENT_H
+#define RECORD_DOCUMENT_H
+
+#include <stdbool.h>
+#include <stddef.h>
+#include <stdio.h>
+
+#include "findings.h"
+
+/* Writes what `witness FORM` makes of the report. The answer is its status, as a shell says it: 0 where all was made. */
+int document_write(FILE *to, const char *witness, const char *form, const char *report, size_t length);
+
+/* The JSON report as a text of one's own; NULL where there is no memory for it. */
+char *document_report(const struct findings *findings, size_t *length);
+
+/* Whether the program knows that word. */
+bool document_is_known(const char *witness, const char *form);
+
+#endif

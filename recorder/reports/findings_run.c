@@ -1,0 +1,182 @@
+#include "findings_run.h"
+
+#include <stdio.h>
+#include <stdlib.h>
+#include <string.h>
+
+#include "confirm.h"
+#include "document.h"
+#include "error_words.h"
+#include "grades.h"
+#include "memory.h"
+#include "output_files.h"
+#include "pictures.h"
+#include "replay.h"
+#include "steering_plan.h"
+#include "witness.h"
+
+bool findings_are_wanted(const struct settings *settings)
+{
+    return is_asked(settings->html) || is_asked(settings->sarif) || is_asked(settings->json) || confirm_is_wanted(settings);
+}
+
+/* Lines that are told, each by itself. */
+static void hear(void *by, long speaker, const char *text, size_t length)
+{
+    struct findings *findings = by;
+    const char *end = text + length;
+    while (text < end) {
+        const char *after = memchr(text, '\n', (size_t)(end - text));
+        char *line = copy_bytes(text, (size_t)((after ? after : end) - text));
+        findings_tell(findings, speaker, line);
+        free(line);
+        text = after ? after + 1 : end;
+    }
+}
+
+void findings_begin(struct run *run)
+{
+    if (!findings_are_wanted(&run->settings))
+        return;
+    run->findings.version = WITNESS_VERSION;
+    run->findings.kit = WITNESS_KIT;
+    run->findings.words = is_asked(run->settings.words) ? run->settings.words : NULL;
+    run->findings.program = run->settings.program;
+    run->findings.directory = is_asked(run->settings.directory) ? run->settings.directory : NULL;
+    run->findings.ignore = run->settings.ignore;
+    run->findings.built = run->settings.built;
+    run->findings.alarms = run->alarms_wanted;
+    run->output.hear = hear;
+    run->output.by = &run->findings;
+}
+
+static bool is_equal(const struct report *one, const struct report *other)
+{
+    return one->kind == other->kind && one->silence && other->silence && strcmp(one->silence, other->silence) == 0;
+}
+
+static bool is_among(const struct reports *reports, const struct report *report)
+{
+    for (size_t i = 0; i < reports->count; i++)
+        if (is_equal(&reports->report[i], report))
+            return true;
+    return false;
+}
+
+/* What is reported where nothing is silenced, and not otherwise. */
+static void take_silenced(struct process *process, struct found *found)
+{
+    struct reports all = {0};
+    if (found->notes.matches == 0 && found->notes.libraries == 0)
+        return;
+    replay_with(process->run, process->recording, SILENCE_NOTHING, &all, &found->silenced_notes);
+    grade_reports(&all, process->run->settings.grader, false);
+    for (size_t i = 0; i < all.count; i++) {
+        struct report *report = &all.report[i];
+        if (!report->silence || is_among(&found->reports, report))
+            continue;
+        ADD(found->silenced.report, found->silenced.count, found->silenced.room) = *report;
+        *report = (struct report){0};
+    }
+    reports_end(&all);
+}
+
+/* Errors in the use of locks are reports with one place. */
+static void take_errors(struct found *found)
+{
+    struct reports *reports = &found->reports;
+    reports->notes = &found->notes;
+    for (size_t i = 0; i < found->notes.events; i++) {
+        const struct event *event = &found->notes.event[i];
+        const char *text = error_text(event), *name = event->name ? event->name : "";
+        if (!text)
+            continue;
+        char *heading = say_text(" \"%s\"", name);
+        reports_add(reports, REPORT_ERROR, text);
+        reports_add_line(reports, LINE_HOLDS, heading, event->site ? event->site : "?:0")->name = copy(name);
+        free(heading);
+    }
+}
+
+void findings_take(struct process *process)
+{
+    struct run *run = process->run;
+    if (!findings_are_wanted(&run->settings))
+        return;
+    struct found *found = findings_add(&run->findings, process->name, process->recording->process);
+    orders_read(process, &found->orders);
+    if (process->is_traced && confirm_is_wanted(&run->settings))
+        plan_finds_first_locks(process);
+    found->notes = process->notes;
+    found->reports = process->reports;
+    process->notes = (struct notes){0};
+    process->reports = (struct reports){0};
+    if (!run->settings.no_errors)
+        take_errors(found);
+    take_silenced(process, found);
+}
+
+/* A file that stands open, NULL where it can't be: whether it is written is said. */
+static void end_file(struct run *run, FILE *to, const char *path)
+{
+    bool is_written = to && !ferror(to);
+    if (to && fclose(to) != 0)
+        is_written = false;
+    if (!is_written)
+        say(&run->output, "%s can't be written", path);
+}
+
+static void write_report(struct run *run, const char *report, size_t length)
+{
+    const char *path = run->settings.json;
+    if (!is_asked(path))
+        return;
+    FILE *to = report ? written_file(path) : NULL;
+    if (to)
+        fwrite(report, 1, length, to);
+    end_file(run, to, path);
+}
+
+/* What `witness FORM` makes of the report. */
+static void write_document(struct run *run, const char *path, const char *form, const char *report, size_t length)
+{
+    const char *witness = run->settings.witness;
+    if (!is_asked(path))
+        return;
+    FILE *to = report ? written_file(path) : NULL;
+    int status = to ? document_write(to, witness, form, report, length) : 0;
+    end_file(run, to, path);
+    if (status != 0)
+        say(&run->output, "%s isn't whole: %s %s ended with the status %d", path, witness, form, status);
+}
+
+/* The pictures stand in the page alone. */
+static void write_page(struct run *run)
+{
+    size_t length = 0;
+    if (!is_asked(run->settings.html))
+        return;
+    pictures_draw(&run->findings);
+    char *report = document_report(&run->findings, &length);
+    write_document(run, run->settings.html, "html", report, length);
+    free(report);
+}
+
+void findings_finish(struct run *run)
+{
+    size_t length = 0;
+    if (!findings_are_wanted(&run->settings))
+        return;
+    run->output.hear = NULL;
+    run->findings.ended = time(NULL);
+    run->findings.has_failed = run->unknown;
+    findings_gather(&run->findings);
+    if (is_asked(run->settings.json) || is_asked(run->settings.sarif)) {
+        char *report = document_report(&run->findings, &length);
+        write_document(run, run->settings.sarif, "sarif", report, length);
+        write_report(run, report, length);
+        free(report);
+    }
+    write_page(run);
+    findings_end(&run->findings);
+}

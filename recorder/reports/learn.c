@@ -1,0 +1,269 @@
+#include "learn.h"
+
+#include <errno.h>
+#include <fcntl.h>
+#include <stdlib.h>
+#include <string.h>
+#include <unistd.h>
+
+#include "files.h"
+#include "findings_run.h"
+#include "ignore.h"
+#include "memory.h"
+#include "orders_file.h"
+#include "orders_verdict.h"
+#include "output_files.h"
+#include "report_text.h"
+#include "usage.h"
+
+/* A run that is told of, with the orders of others. */
+struct ending_run {
+    struct run *run;
+    const char *name;     /* the file as it was named */
+    char *path;
+    struct learnt learnt;
+    struct judgement judgement;
+    struct found *found; /* what is reported, for the files that are written of it; NULL where none is wanted */
+    size_t added;        /* new orders that are against none */
+    size_t against;      /* orders of the run that are against others */
+    size_t elsewhere;    /* orders against others that the run didn't meet */
+};
+
+bool learn_is_wanted(const struct settings *settings)
+{
+    return is_asked(settings->learn) || is_asked(settings->known);
+}
+
+static bool is_there(const char *path)
+{
+    return access(path, F_OK) == 0 || errno != ENOENT;
+}
+
+/* Whether the file and those beside it can be written: errno says why not. */
+static bool is_writable(const char *path)
+{
+    char *beside = say_text("%s.lock", path), *folder = strchr(path, '/') ? file_folder(path) : copy(".");
+    int lock = open(beside, O_RDWR | O_CREAT | O_CLOEXEC | O_NOFOLLOW, 0666);
+    bool is = lock >= 0 && access(folder, W_OK) == 0 && (!is_there(path) || access(path, W_OK) == 0);
+    int why = errno;
+    if (lock >= 0)
+        close(lock);
+    free(beside);
+    free(folder);
+    errno = why;
+    return is;
+}
+
+void learn_check(const struct settings *settings)
+{
+    struct learnt learnt = {0};
+    const char *file = is_asked(settings->learn) ? settings->learn : settings->known;
+    char *path = learnt_path(file), *why = NULL;
+    bool is_written_to = is_asked(settings->learn) && written_is_special(path);
+    if (is_written_to)
+        written_check(path);
+    else if (is_asked(settings->learn) && !is_writable(path))
+        refuse_target("%s can't be written: %s", file, strerror(errno));
+    if (!is_written_to && (!is_asked(settings->learn) || is_there(path)))
+        why = learnt_read(&learnt, path);
+    if (why)
+        refuse_target("%s", why);
+    learnt_end(&learnt);
+    free(path);
+}
+
+/* The run's orders come after those that are known. */
+static void join(struct ending_run *ending, const struct learnt *met)
+{
+    struct learnt *learnt = &ending->learnt;
+    for (size_t i = 0; i < met->orders; i++) {
+        const struct learnt_order *mine = &met->order[i];
+        struct order_words words;
+        char *line = say_text("%s%s%s", mine->key, *mine->origin ? "\t# " : "", mine->origin);
+        size_t known = learnt->orders;
+        if (!order_parted(&words, line, strlen(line))) {
+            struct learnt_order *order = learnt_add(learnt, &words);
+            order->is_new = learnt->orders > known;
+            order->is_met = true;
+            order->is_told = mine->is_told;
+            order->runs++;
+            order->last = learnt->runs + 1;
+            if (order->is_new)
+                learnt_tell_here(learnt, order, mine->asked, mine->held);
+        }
+        free(line);
+    }
+    learnt->runs++;
+}
+
+static void bless(struct ending_run *ending)
+{
+    struct ignore ignore;
+    if (!is_asked(ending->run->settings.ignore))
+        return;
+    ignore_read(&ignore, ending->run->settings.ignore);
+    for (size_t i = 0; i < ignore.pairs; i++)
+        learnt_bless(&ending->learnt, ignore.pair[i].first, ignore.pair[i].second);
+    ignore_end(&ignore);
+}
+
+/* For the files that are written of the run's reports. */
+static void take_finding(struct ending_run *ending, size_t number)
+{
+    struct report *report = &ending->judgement.reports.report[number];
+    if (!ending->found)
+        return;
+    ADD(ending->found->reports.report, ending->found->reports.count, ending->found->reports.room) = *report;
+    *report = (struct report){0};
+}
+
+/* A circle to which the run has an order that closes it, unless the run's own reports tell of it. */
+static void tell_report_of(struct ending_run *ending, size_t number)
+{
+    struct run *run = ending->run;
+    const struct learnt_order *order = &ending->learnt.order[ending->judgement.closing[number]];
+    char *text = NULL;
+    size_t length = 0;
+    if (!order->is_met) {
+        ending->elsewhere++;
+        return;
+    }
+    ending->against++;
+    run->contradicted = run->reported = true;
+    FILE *to = order->is_told ? NULL : open_memstream(&text, &length);
+    if (!to)
+        return;
+    report_write(to, &ending->judgement.reports.report[number], false, run->settings.suppressions);
+    fclose(to);
+    run->reports++;
+    tell_report(&run->output, text, length);
+    free(text);
+    take_finding(ending, number);
+}
+
+/* They are as of a process of the program, which has no trace of its own. */
+static void tell_reports_of(struct ending_run *ending)
+{
+    struct run *run = ending->run;
+    struct judgement *judgement = &ending->judgement;
+    if (judgement->reports.count > 0 && findings_are_wanted(&run->settings))
+        ending->found = findings_add(&run->findings, run->settings.program, run->process);
+    for (size_t i = 0; i < judgement->reports.count; i++)
+        tell_report_of(ending, i);
+    if (!ending->found)
+        return;
+    ending->found->notes = judgement->notes;
+    judgement->notes = (struct notes){0};
+}
+
+/* A line for each new order: `+` for what may be learnt, `!` for what is against others. */
+static void tell_new(struct ending_run *ending)
+{
+    struct run *run = ending->run;
+    size_t *sorted = learnt_sorted(&ending->learnt);
+    for (size_t i = 0; i < ending->learnt.orders; i++) {
+        const struct learnt_order *order = &ending->learnt.order[sorted[i]];
+        ending->added += order->is_new && !order->is_against;
+        if (!order->is_new || (!order->is_against && is_asked(run->settings.learn)))
+            continue;
+        char *line = say_text("%c %s%s%s\n", order->is_against ? '!' : '+', order->key, *order->origin ? "\t# " : "",
+            order->origin);
+        tell(&run->output, line, strlen(line));
+        free(line);
+    }
+    free(sorted);
+}
+
+static void tell_summary(struct ending_run *ending)
+{
+    struct run *run = ending->run;
+    const struct learning *learning = run->learning;
+    bool is_learnt = is_asked(run->settings.learn);
+    size_t nameless = learning ? learning->nameless.count : 0, long_names = learning ? learning->long_names : 0;
+    if (nameless > 0)
+        say(&run->output,
+            "%s: %zu type%s of this run %s no name that lasts (no debug information?): orders of %s aren't in it",
+            ending->name, nameless, nameless == 1 ? "" : "s", nameless == 1 ? "has" : "have",
+            nameless == 1 ? "it" : "them");
+    if (long_names > 0)
+        say(&run->output, "%s: the names of %zu orders are longer than a line may be: they aren't in it", ending->name,
+            long_names);
+    if (ending->elsewhere > 0)
+        say(&run->output, "%s: %zu of its own orders are against others of its own: `orders judge %s` tells which",
+            ending->name, ending->elsewhere, ending->name);
+    if (!ending->judgement.failed && !ending->judgement.is_shown)
+        say(&run->output, "%s: that there is no further circle isn't shown: %s", ending->name,
+            ending->judgement.unshown);
+    say(&run->output, "%s: %zu new order%s%s, %zu against others", ending->name, ending->added,
+        ending->added == 1 ? "" : "s", is_learnt ? " learnt" : "", ending->against);
+}
+
+/* It isn't known what the run adds. */
+static void tell_failure(struct ending_run *ending, const char *why)
+{
+    ending->run->unknown = true;
+    say(&ending->run->output, "%s: the run isn't judged with other runs", why);
+}
+
+static void judge_and_tell(struct ending_run *ending)
+{
+    struct run *run = ending->run;
+    const struct judges judges = {run->settings.witness, run->settings.acyclic};
+    if (run->learning)
+        join(ending, &run->learning->met);
+    bless(ending);
+    learnt_judge(&ending->learnt, &judges, &ending->judgement);
+    if (ending->judgement.failed) {
+        tell_failure(ending, ending->judgement.failed);
+        return;
+    }
+    tell_reports_of(ending);
+    tell_new(ending);
+    run->has_new = ending->added > 0;
+    char *why = is_asked(run->settings.learn) ? learnt_write(&ending->learnt, ending->path) : NULL;
+    if (why) {
+        run->unknown = true;
+        say(&run->output, "%s: nothing is learnt", why);
+    } else {
+        tell_summary(ending);
+    }
+    free(why);
+}
+
+void learn_tell(struct run *run)
+{
+    /* Of a program that never loaded the recorder nothing is known: it is no run. */
+    if (!learn_is_wanted(&run->settings) || !run->has_started)
+        return;
+    bool is_learnt = is_asked(run->settings.learn);
+    struct ending_run ending = {.run = run, .name = is_learnt ? run->settings.learn : run->settings.known};
+    ending.path = learnt_path(ending.name);
+    int lock = -1;
+    if (is_learnt && !learnt_lock(ending.path, &lock)) {
+        say(&run->output, "%s.lock can't be written: %s: nothing is learnt", ending.path, strerror(errno));
+        run->unknown = true;
+    } else {
+        /* Other runs may have written to it since this one began. */
+        bool has_known = !is_learnt || (is_there(ending.path) && !written_is_special(ending.path));
+        char *why = has_known ? learnt_read(&ending.learnt, ending.path) : NULL;
+        if (why)
+            tell_failure(&ending, why);
+        else
+            judge_and_tell(&ending);
+        free(why);
+    }
+    if (lock >= 0)
+        close(lock);
+    judgement_end(&ending.judgement);
+    learnt_end(&ending.learnt);
+    free(ending.path);
+}
+
+void learn_end(struct run *run)
+{
+    if (!run->learning)
+        return;
+    learnt_end(&run->learning->met);
+    map_end(&run->learning->nameless);
+    free(run->learning);
+}

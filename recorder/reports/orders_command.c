@@ -1,0 +1,294 @@
+#include "orders_command.h"
+
+#include <errno.h>
+#include <signal.h>
+#include <stdio.h>
+#include <stdlib.h>
+#include <string.h>
+#include <unistd.h>
+
+#include "files.h"
+#include "ignore.h"
+#include "memory.h"
+#include "orders_file.h"
+#include "orders_verdict.h"
+#include "output_files.h"
+#include "prepare.h"
+#include "report_text.h"
+#include "run_orders_picture.h"
+#include "usage.h"
+
+enum { FOUND = 1, FAILED = 126 };
+
+static const char text[] =
+    "orders judge [OPTIONS] FILE..     whether all orders of these files together have a circle, and which\n"
+    "orders merge [-o FILE] FILE..     all of them, each once: to standard output, or a file, with counts beside it\n"
+    "orders text FILE..                each type, and below it what may be asked for while it is held\n"
+    "orders unseen N FILE..            those that weren't met in the last N runs\n"
+    "A file has a line for each order, CLASS \"TYPE\" > CLASS \"TYPE\", as record --learn writes it. One without\n"
+    "FILE.runs beside it is that of one run. The options of judge:\n"
+    "  --ignore FILE  lines \"TYPE\" \"TYPE\": either order is all right\n"
+    "  --gen-suppressions   below each report the line for that file\n"
+    "  --graph FILE   a picture of the orders, what is reported red: FILE.svg where dot is there, or FILE.dot\n"
+    "  --html FILE    a page with the reports and the picture\n"
+    "Status: 0; 1 where judge reports a circle or unseen names an order; 2 where the command line is wrong or a file\n"
+    "is no file of orders; 126 where something is missing.\n";
+
+/* What is asked for by options. */
+struct wanted {
+    const char *ignore, *to;
+    struct drawing drawing;
+    bool suppressions;
+};
+
+/* The word after the option, which goes on to the next one. */
+static const char *word_after(char ***words)
+{
+    if (!(*words)[1])
+        refuse("%s needs a word behind it", **words);
+    return *++*words;
+}
+
+/* The file to be written. */
+static const char *file_after(char ***words)
+{
+    const char *option = **words, *file = word_after(words);
+    written_name_check(option, file);
+    return file;
+}
+
+static char **read_options(struct wanted *wanted, char **words, bool is_judge)
+{
+    *wanted = (struct wanted){0};
+    for (; *words && **words == '-' && (*words)[1]; words++) {
+        if (strcmp(*words, "--") == 0)
+            return words + 1;
+        if (!is_judge && strcmp(*words, "-o") == 0)
+            wanted->to = file_after(&words);
+        else if (is_judge && strcmp(*words, "--ignore") == 0)
+            wanted->ignore = word_after(&words);
+        else if (is_judge && strcmp(*words, "--graph") == 0)
+            wanted->drawing.graph = file_after(&words);
+        else if (is_judge && strcmp(*words, "--html") == 0)
+            wanted->drawing.html = file_after(&words);
+        else if (is_judge && strcmp(*words, "--gen-suppressions") == 0)
+            wanted->suppressions = true;
+        else
+            refuse("there is no option %s here", *words);
+    }
+    return words;
+}
+
+static void read_files(struct learnt *learnt, char **files)
+{
+    if (!*files)
+        refuse("no file is named");
+    for (; *files; files++) {
+        char *why = learnt_read(learnt, *files);
+        if (why)
+            refuse_target("%s", why);
+    }
+}
+
+/* What was written to standard output is there, or it is told that it isn't. */
+static int status_of_output(int status)
+{
+    if (fflush(stdout) == 0 && !ferror(stdout))
+        return status;
+    fprintf(stderr, "orders: the output can't be written: %s\n", strerror(errno));
+    return FAILED;
+}
+
+static int merge(char **words)
+{
+    struct learnt learnt = {0};
+    struct wanted wanted;
+    char **files = read_options(&wanted, words, false), *why = NULL;
+    char *path = wanted.to ? learnt_path(wanted.to) : NULL;
+    int lock = -1;
+    if (path && !learnt_lock(path, &lock))
+        fail("%s.lock can't be written: %s", path, strerror(errno));
+    read_files(&learnt, files);
+    if (path)
+        why = learnt_write(&learnt, path);
+    else
+        learnt_print(stdout, &learnt);
+    if (why)
+        fail("%s", why);
+    free(path);
+    learnt_end(&learnt);
+    return status_of_output(0);
+}
+
+static void bless(struct learnt *learnt, const char *path)
+{
+    struct ignore ignore;
+    prepare_files(&(struct settings){.ignore = path});
+    ignore_read(&ignore, path);
+    for (size_t i = 0; i < ignore.pairs; i++)
+        learnt_bless(learnt, ignore.pair[i].first, ignore.pair[i].second);
+    ignore_end(&ignore);
+}
+
+static char *counted(unsigned long number, const char *what, const char *many)
+{
+    return say_text("%lu %s%s", number, what, number == 1 ? "" : many);
+}
+
+static size_t count_blessed(const struct learnt *learnt)
+{
+    size_t blessed = 0;
+    for (size_t i = 0; i < learnt->orders; i++)
+        blessed += learnt->order[i].is_blessed;
+    return blessed;
+}
+
+/* What is known of all orders, as a text of one's own. Of those in peace nothing is. */
+static char *verdict_of(const struct learnt *learnt, const struct judgement *judgement)
+{
+    const char *peace = count_blessed(learnt) > 0 ? " and those in peace" : "";
+    const char *alone = judgement->against == 1 ? "it" : "these";
+    if (judgement->against > 0 && judgement->is_shown)
+        return say_text("%zu order%s against others, and no circle without %s%s", judgement->against,
+            judgement->against == 1 ? "" : "s", alone, peace);
+    if (judgement->against > 0)
+        return say_text("%zu order%s against others", judgement->against, judgement->against == 1 ? "" : "s");
+    if (judgement->is_shown && *peace)
+        return copy("no circle without those in peace");
+    if (judgement->is_shown)
+        return copy("clean: threads that ask for nothing but these orders never wait for one another in a circle "
+                    "(docs/PROOFS.md)");
+    return copy("no circle was found, and nothing shows that there is none");
+}
+
+/* The last line, without its head. */
+static char *summary_of(const struct learnt *learnt, const struct judgement *judgement)
+{
+    char *verdict = verdict_of(learnt, judgement);
+    char *orders = counted(learnt->orders, "order", "s"), *types = counted(learnt->types, "type", "s");
+    char *runs = counted(learnt->runs, "run", "s");
+    char *summary = say_text("%s: %s, %s, %s", verdict, orders, types, runs);
+    free(verdict);
+    free(orders);
+    free(types);
+    free(runs);
+    return summary;
+}
+
+/* The reports and the last line. The status. */
+static int tell(const struct learnt *learnt, const struct judgement *judgement, bool suppressions, const char *summary)
+{
+    int status = judgement->against > 0 ? FOUND : 0;
+    for (size_t i = 0; i < judgement->reports.count; i++)
+        report_write(stdout, &judgement->reports.report[i], false, suppressions);
+    size_t blessed = count_blessed(learnt);
+    if (blessed > 0)
+        printf("orders: %zu of them %s left in peace\n", blessed, blessed == 1 ? "is" : "are");
+    if (!judgement->is_shown) {
+        fprintf(stderr, "orders: that there is no%s circle isn't shown: %s\n", status ? " further" : "",
+            judgement->unshown);
+        status = status ? status : FAILED;
+    }
+    printf("orders: %s\n", summary);
+    return status;
+}
+
+static int judge(const char *here, char **words)
+{
+    struct learnt learnt = {0};
+    struct wanted wanted;
+    struct judgement judgement;
+    struct judges judges = {judge_of(here, "WITNESS", "witness"), judge_of(here, "ACYCLIC", "acyclic")};
+    char **files = read_options(&wanted, words, true);
+    wanted.drawing.witness = judges.witness;
+    drawing_check(&wanted.drawing);
+    read_files(&learnt, files);
+    if (wanted.ignore)
+        bless(&learnt, wanted.ignore);
+    learnt_judge(&learnt, &judges, &judgement);
+    if (judgement.failed)
+        fail("%s: nothing is judged", judgement.failed);
+    char *summary = summary_of(&learnt, &judgement);
+    int status = tell(&learnt, &judgement, wanted.suppressions, summary);
+    if (!draw_learnt(&wanted.drawing, &learnt, &judgement, summary))
+        status = FAILED;
+    free(summary);
+    judgement_end(&judgement);
+    learnt_end(&learnt);
+    return status_of_output(status);
+}
+
+/* The orders of a type stand together where they are sorted. */
+static int tell_text(char **words)
+{
+    struct learnt learnt = {0};
+    struct wanted wanted;
+    read_files(&learnt, read_options(&wanted, words, false));
+    size_t *sorted = learnt_sorted(&learnt);
+    for (size_t i = 0; i < learnt.orders; i++) {
+        const struct learnt_order *order = &learnt.order[sorted[i]];
+        const char *origin = order->origin, *end = strstr(origin, " while ");
+        if (i == 0 || learnt.order[sorted[i - 1]].from != order->from)
+            printf("%s\n", learnt.type[order->from].text);
+        printf("    %s%s%.*s\n", learnt.type[order->to].text, *origin ? "  # " : "",
+            (int)(end ? end - origin : (ptrdiff_t)strlen(origin)), origin);
+    }
+    free(sorted);
+    learnt_end(&learnt);
+    return status_of_output(0);
+}
+
+static int tell_unseen(char **words)
+{
+    struct learnt learnt = {0};
+    char *end = NULL;
+    unsigned long within = *words && **words >= '1' && **words <= '9' ? strtoul(*words, &end, 10) : 0;
+    if (within == 0 || *end)
+        refuse("unseen takes a number of runs first, not %s", *words ? *words : "nothing");
+    read_files(&learnt, words + 1);
+    size_t *sorted = learnt_sorted(&learnt), unseen = 0, unknown = 0;
+    for (size_t i = 0; i < learnt.orders; i++) {
+        const struct learnt_order *order = &learnt.order[sorted[i]];
+        unknown += order->last == 0;
+        if (order->last == 0 || learnt.runs - order->last < within)
+            continue;
+        printf("%s\t# %lu runs ago\n", order->key, learnt.runs - order->last);
+        unseen++;
+    }
+    if (unknown > 0)
+        fprintf(stderr,
+            "orders: of %zu orders the runs weren't counted one by one, so it isn't known when they were met last\n",
+            unknown);
+    free(sorted);
+    learnt_end(&learnt);
+    return status_of_output(unseen > 0 ? FOUND : 0);
+}
+
+int orders_command(const char *here, char **words)
+{
+    usage_speaks_as("orders");
+    /*
+     * A judge that ends before it has read all says why by its status, and a limit on the size of files is a failure
+     * to write.
+     */
+    signal(SIGPIPE, SIG_IGN);
+    signal(SIGXFSZ, SIG_IGN);
+    const char *word = *words ? *words : "";
+    if (strcmp(word, "--help") == 0 || strcmp(word, "-h") == 0) {
+        fputs(text, stdout);
+        return status_of_output(0);
+    }
+    if (strcmp(word, "--version") == 0) {
+        usage_version("orders");
+        return status_of_output(0);
+    }
+    if (strcmp(word, "judge") == 0)
+        return judge(here, words + 1);
+    if (strcmp(word, "merge") == 0)
+        return merge(words + 1);
+    if (strcmp(word, "text") == 0)
+        return tell_text(words + 1);
+    if (strcmp(word, "unseen") == 0)
+        return tell_unseen(words + 1);
+    refuse("%s is none of judge, merge, text and unseen", *word ? word : "nothing");
+}

@@ -1,0 +1,35 @@
+/*
+ * Files of orders. Beside a file FILE stand FILE.runs, how many runs met each order, and FILE.lock, by which those that
+ * write it take turns. A file without counts is one run's. Nothing stands beside what isn't a regular file.
+ */
+#ifndef RECORD_ORDERS_FILE_H
+#define RECORD_ORDERS_FILE_H
+
+#include <stdbool.h>
+#include <stdio.h>
+
+#include "run_orders.h"
+
+/* Adds the file's orders, and its runs. Why it can't be read, as a text of one's own; NULL where it was. */
+char *learnt_read(struct learnt *learnt, const char *path);
+
+/* The file that is meant where the path is a link; else the path: a text of one's own. */
+char *learnt_path(const char *path);
+
+/*
+ * Waits for its turn to write the file. False where it can't have one: errno says why. The lock, which close() gives
+ * back, is below 0 where there is none, as of what isn't a regular file.
+ */
+bool learnt_lock(const char *path, int *lock);
+
+/*
+ * Writes the file and its counts in place of those that are there, but for new orders that are against others. Who
+ * reads it meanwhile has the old one or the new one, whole. Why it can't be written, as a text of one's own; NULL
+ * where it was. What isn't a regular file is written to, and has no counts.
+ */
+char *learnt_write(const struct learnt *learnt, const char *path);
+
+/* Writes the orders' lines, sorted by their keys in the C locale. */
+void learnt_print(FILE *to, const struct learnt *learnt);
+
+#endif

@@ -1,0 +1,112 @@
+#include "replay_answers.h"
+
+#include <stdlib.h>
+#include <string.h>
+
+#include "memory.h"
+#include "state.h"
+
+enum { SHORT_BYTES = 1 << 20, ANSWERS_BYTES = 1 << 26, DEATH = 126 };
+
+void answers_end(struct answers *answers)
+{
+    for (size_t i = 0; i < answers->count; i++) {
+        free(answers->answer[i].trace);
+        free(answers->answer[i].told);
+    }
+    free(answers->answer);
+    *answers = (struct answers){0};
+}
+
+void replaying_begin(struct replaying *replaying, struct answers *answers, const char *witness)
+{
+    *replaying = (struct replaying){.answers = answers, .witness = witness};
+}
+
+/* Begins the verifier, with what has come so far. */
+static void begin(struct replaying *replaying)
+{
+    replaying->is_begun = true;
+    replaying->to = open_memstream(&replaying->told, &replaying->told_length);
+    if (!replaying->to)
+        return;
+    verdict_begin(&replaying->verdict, replaying->witness, "state", replaying->to);
+    verdict_feed(&replaying->verdict, replaying->trace, replaying->length);
+}
+
+void replaying_takes(struct replaying *replaying, const char *bytes, size_t length)
+{
+    if (!replaying->is_begun && replaying->length + length > SHORT_BYTES)
+        begin(replaying);
+    if (replaying->is_begun) {
+        if (replaying->to)
+            verdict_feed(&replaying->verdict, bytes, length);
+        return;
+    }
+    while (replaying->length + length > replaying->room) {
+        replaying->room = replaying->room ? 2 * replaying->room : 1 << 14;
+        replaying->trace = grow(replaying->trace, replaying->room, 1);
+    }
+    memcpy(replaying->trace + replaying->length, bytes, length);
+    replaying->length += length;
+}
+
+/* What it told of that trace before; NULL where it wasn't asked. */
+static const struct answer *known(const struct answers *answers, const char *trace, size_t length)
+{
+    for (size_t i = 0; i < answers->count; i++) {
+        const struct answer *answer = &answers->answer[i];
+        if (answer->length == length && (length == 0 || memcmp(answer->trace, trace, length) == 0))
+            return answer;
+    }
+    return NULL;
+}
+
+/* Keeps the answer for another trace that is alike. One that couldn't be run isn't kept: it may be another time. */
+static void keep(struct replaying *replaying, int status)
+{
+    struct answers *answers = replaying->answers;
+    size_t bytes = replaying->length + replaying->told_length;
+    if (status >= DEATH || bytes > ANSWERS_BYTES - answers->bytes)
+        return;
+    ADD(answers->answer, answers->count, answers->room) = (struct answer){
+        replaying->trace, copy_bytes(replaying->told, replaying->told_length), replaying->length,
+        replaying->told_length, status};
+    answers->bytes += bytes;
+    replaying->trace = NULL;
+}
+
+/* The verifier has all of the trace. */
+static int end(struct replaying *replaying)
+{
+    int status = replaying->to ? verdict_end(&replaying->verdict) : DEATH;
+    if (!replaying->to || fclose(replaying->to) != 0) {
+        free(replaying->told);
+        replaying->told = copy("");
+        replaying->told_length = 0;
+        return DEATH;
+    }
+    return status;
+}
+
+int replaying_end(struct replaying *replaying)
+{
+    bool is_short = !replaying->is_begun;
+    const struct answer *before = is_short ? known(replaying->answers, replaying->trace, replaying->length) : NULL;
+    int status;
+    if (before) {
+        status = before->status;
+        replaying->told = copy_bytes(before->told, before->told_length);
+        replaying->told_length = before->told_length;
+    } else {
+        if (is_short)
+            begin(replaying);
+        status = end(replaying);
+        if (is_short)
+            keep(replaying, status);
+    }
+    free(replaying->trace);
+    replaying->trace = NULL;
+    replaying->reports_length = state_begins(replaying->told, replaying->told_length);
+    return status;
+}

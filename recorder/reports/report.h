@@ -1,0 +1,91 @@
+/*
+ * What is reported of a process, with all that is known of it: the verifier's reports, and the circles of threads that
+ * wait. From this it is told as a text.
+ */
+#ifndef RECORD_REPORT_H
+#define RECORD_REPORT_H
+
+#include <stdbool.h>
+#include <stddef.h>
+#include <stdio.h>
+
+#include "alarms.h"
+#include "notes.h"
+#include "schedule.h"
+
+/* A line of a report. Texts that a kind of line hasn't are NULL. */
+struct report_line {
+    enum line_kind {
+        LINE_PLAIN, /* it has no place that is known */
+        LINE_LOCK,  /* a lock that was held, or asked for: ` 1st "NAME" (TYPE, CLASS) @ SITE` */
+        LINE_STEP,  /* of the established order: ` "TYPE" -> "OTHER" @ SITE` */
+        LINE_WAITS, /* of a circle: a seat waits for the lock of that name, which seat `next` holds */
+        LINE_HOLDS, /* and a lock that a seat of it holds */
+    } kind;
+    char *text;                  /* as it is told: its place by place_words.h */
+    char *words;                 /* that without the place; NULL where there is none */
+    char *heading;               /* of a place: these, and of a lock without its type */
+    char *name, *type, *class;   /* of a lock; a step has the types that are in order as its type and other */
+    char *other;
+    const char *site;            /* FILE:LINE, or as in ../code_words.h; `listed` or `defined` of a step that no thread made */
+    char *own_site;              /* where it stands, if not in the notes */
+    bool is_spot;                /* it stood as a number of the notes, which know of its thread and its frames */
+    const struct frames *frames; /* of the thread that was there; NULL where they aren't known */
+    long thread;                 /* as the kernel counts; 0 where it isn't known */
+    const struct event *known;   /* its name and who made it; NULL where they aren't known */
+    unsigned seat, next;
+    bool is_behind_readers; /* the lock that the seat waits for is held by a reader, whom no lock names */
+    size_t spot;            /* the place's number in the notes; 0 for none */
+    unsigned long at;       /* in milliseconds, when it was there first */
+    size_t held_spot;       /* of a step: where its first lock was taken; 0 where that isn't known */
+};
+
+struct report {
+    enum report_kind {
+        REPORT_REVERSAL,
+        REPORT_DUPLICATE,
+        REPORT_CIRCLE, /* threads wait for one another */
+        REPORT_SELF,   /* a thread waits for itself */
+        REPORT_ERROR,  /* in the use of a lock */
+        REPORT_OTHER,  /* a bad line, or that the verifier is exhausted */
+    } kind;
+    struct report_line *line; /* the first says what it is */
+    size_t lines, room;
+    size_t first, last;       /* the numbers of the lines of the two locks whose types are at odds; 0 where there is none */
+    bool is_over;             /* the thread that waited for itself went on */
+    char *silence;            /* the line of an ignore file that would silence it; NULL where none would */
+    struct alarm alarm;       /* how much it is to be feared, once the reports are graded (grades.h) */
+    struct schedule *schedule; /* how its threads come to hang; NULL where no single locks were taken both ways */
+};
+
+/* The texts and numbers point into the notes. */
+struct reports {
+    const struct notes *notes;
+    struct report *report;
+    size_t count, room;
+    bool are_graded;
+};
+
+/* Adds what the verifier has told. */
+void reports_read(struct reports *reports, const char *told, size_t length);
+
+/* For what isn't the verifier's: a further report, and a line of the last one, at a place as it stands in the trace. */
+struct report *reports_add(struct reports *reports, enum report_kind kind, const char *head);
+struct report_line *reports_add_line(struct reports *reports, enum line_kind kind, const char *heading, const char *place);
+
+/* How many there are of the verifier's, and how many circles. */
+unsigned long reports_counted(const struct reports *reports);
+unsigned long reports_circles(const struct reports *reports);
+
+void reports_end(struct reports *reports);
+
+/* Its lines as they are told, as a text of one's own. */
+char *report_lines(const struct report *report);
+
+/* The lock of that name as it is told at the place: a text of one's own, with quotes. */
+char *lock_told_at(const struct notes *notes, const char *name, const char *site);
+
+/* By what the report is known, as a text of one's own: `"NAME" and "NAME" @ FILE:LINE`, of its last two locks. */
+char *report_about(const struct report *report);
+
+#endif

@@ -1,0 +1,16 @@
+/*
+ * The source files of a run's places, as a list of JSON: what else is known of each.
+ */
+#ifndef RECORD_SOURCES_H
+#define RECORD_SOURCES_H
+
+#include "findings.h"
+#include "json_writer.h"
+
+/*
+ * Each file once, in the order of the places: its name there, its own name, whether it was changed after the program was
+ * built, and the lines around the places of reports and their schedules.
+ */
+void sources_write(struct objects *to, const struct findings *findings);
+
+#endif

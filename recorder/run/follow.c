@@ -1,0 +1,136 @@
+#include "follow.h"
+
+#include <fcntl.h>
+#include <stdlib.h>
+#include <string.h>
+#include <time.h>
+#include <unistd.h>
+
+#include "deadlock_watch.h"
+#include "memory.h"
+#include "replay.h"
+#include "tell_process.h"
+#include "version.h"
+
+/* A stream of more bytes is left until the end; so many times as long as a look took nothing is looked at. */
+enum { BYTES_MOST = 1 << 25, PAUSE = 4 };
+
+/* A report that was told, and what was said of its single locks. */
+struct told_report {
+    char *text, *alarm;
+};
+
+/* How far a stream was read. */
+struct followed {
+    char *name;
+    size_t length;
+    struct told_report *told;
+    size_t tolds, told_room;
+    struct deadlock deadlock;
+};
+
+static struct followed *followed_of(struct run *run, const char *name)
+{
+    for (size_t i = 0; i < run->followeds; i++)
+        if (strcmp(run->followed[i].name, name) == 0)
+            return &run->followed[i];
+    ADD(run->followed, run->followeds, run->followed_room) = (struct followed){.name = copy(name)};
+    return &run->followed[run->followeds - 1];
+}
+
+static const struct followed *known(const struct run *run, const char *name)
+{
+    static const struct followed nothing;
+    for (size_t i = 0; i < run->followeds; i++)
+        if (strcmp(run->followed[i].name, name) == 0)
+            return &run->followed[i];
+    return &nothing;
+}
+
+void follow_keeps(struct run *run, const char *recording, char *report, char *alarm)
+{
+    struct followed *followed = followed_of(run, recording);
+    ADD(followed->told, followed->tolds, followed->told_room) = (struct told_report){report, alarm};
+}
+
+const char *follow_alarm(const struct run *run, const char *recording, const char *report)
+{
+    const struct followed *followed = known(run, recording);
+    for (size_t i = 0; i < followed->tolds; i++)
+        if (strcmp(followed->told[i].text, report) == 0)
+            return followed->told[i].alarm;
+    return NULL;
+}
+
+void follow_end(struct run *run)
+{
+    for (size_t i = 0; i < run->followeds; i++) {
+        for (size_t at = 0; at < run->followed[i].tolds; at++) {
+            free(run->followed[i].told[at].text);
+            free(run->followed[i].told[at].alarm);
+        }
+        deadlock_end(&run->followed[i].deadlock);
+        free(run->followed[i].told);
+        free(run->followed[i].name);
+    }
+    free(run->followed);
+}
+
+/* Whether a byte stands there that wasn't there when the stream was read last. */
+static bool has_grown(const char *path, size_t length)
+{
+    char byte = 0;
+    int file = open(path, O_RDONLY | O_NONBLOCK | O_CLOEXEC);
+    if (file < 0)
+        return false;
+    bool is_there = pread(file, &byte, 1, (off_t)length) == 1 && byte != 0;
+    close(file);
+    return is_there;
+}
+
+static long long microseconds(void)
+{
+    struct timespec now;
+    clock_gettime(CLOCK_MONOTONIC, &now);
+    return now.tv_sec * 1000000LL + now.tv_nsec / 1000;
+}
+
+/* Tells what the stream has by now. */
+static void tell_of(struct process *process, struct followed *followed)
+{
+    followed->length = process->stream.length;
+    process->name = process->stream.program ? process->stream.program : "";
+    replay(process);
+    if (!process->run->watched)
+        tell_new_reports(process);
+    deadlock_look(process, &followed->deadlock, microseconds());
+    process_end(process);
+}
+
+static void read_stream(struct run *run, const struct recording *recording, struct followed *followed)
+{
+    struct process process = {.run = run, .recording = recording, .is_followed = true};
+    char *path = say_text("%s/%s", run->records, recording->name);
+    bool is_due = deadlock_is_due(&followed->deadlock, microseconds());
+    if ((is_due || has_grown(path, followed->length)) && stream_room(path) <= BYTES_MOST
+        && stream_open(&process.stream, path, true)) {
+        if ((is_due || process.stream.length > followed->length)
+            && version_is_own(process.stream.bytes, process.stream.length))
+            tell_of(&process, followed);
+        stream_close(&process.stream);
+    }
+    free(path);
+}
+
+void follow(struct run *run)
+{
+    long long begun = microseconds();
+    if (begun < run->follow_next)
+        return;
+    find_recordings(run);
+    for (size_t i = 0; i < run->recordings; i++)
+        read_stream(run, &run->recording[i], followed_of(run, run->recording[i].name));
+    forget_recordings(run);
+    long long now = microseconds();
+    run->follow_next = now + PAUSE * (now - begun);
+}

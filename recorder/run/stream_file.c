@@ -1,0 +1,181 @@
+#include "stream_file.h"
+
+#include "format.h"
+#include "line.h"
+#include "memory.h"
+#include "source_names.h"
+
+#include <errno.h>
+#include <fcntl.h>
+#include <limits.h>
+#include <stdlib.h>
+#include <string.h>
+#include <sys/mman.h>
+#include <sys/stat.h>
+#include <unistd.h>
+
+/* Up to and with the last newline of them. */
+static size_t whole_lines(const char *bytes, size_t length)
+{
+    const char *last = length > 0 ? memrchr(bytes, '\n', length) : NULL;
+    return last ? (size_t)(last - bytes) + 1 : 0;
+}
+
+/* What is left of the bytes without zeroes, moved to their beginning. */
+static size_t without_zeroes(char *bytes, size_t length)
+{
+    char *to = bytes;
+    for (size_t at = 0; at < length; at++)
+        if (bytes[at])
+            *to++ = bytes[at];
+    return (size_t)(to - bytes);
+}
+
+/* The bytes as the lines that are whole. Zeroes at the file's end are room that it has; others only damage leaves. */
+static void find_lines(struct stream *stream, char *bytes, bool goes_on)
+{
+    size_t length = stream->mapped;
+    const char *zero = length > 0 ? memchr(bytes, '\0', length) : NULL;
+    if (zero && !goes_on) {
+        while (length > 0 && !bytes[length - 1])
+            length--;
+        if ((size_t)(zero - bytes) < length)
+            length = without_zeroes(bytes, length);
+    } else if (zero) {
+        length = (size_t)(zero - bytes);
+    }
+    stream->bytes = bytes;
+    stream->length = whole_lines(bytes, length);
+}
+
+/* The name that the second line has. */
+static char *program_in(const struct stream *stream)
+{
+    struct line line;
+    const char *at = stream->bytes;
+    char *name = NULL;
+    for (unsigned lines = 0; lines < 2 && !name && line_next(&line, &at, stream->bytes + stream->length); lines++)
+        if (field_is(&line, 0, WORD_PROGRAM))
+            name = field_word(&line, 1);
+    if (name)
+        clean_name(name);
+    return name ? name : copy("");
+}
+
+static long process_of(const char *path)
+{
+    char *end;
+    const char *name = base_of(path);
+    long number = *name >= '0' && *name <= '9' ? strtol(name, &end, 10) : 0;
+    return number > 0 && number < INT_MAX ? number : 0;
+}
+
+/* Where something is written from there on; where the file's system knows nothing of holes, there. -1 of nothing. */
+static off_t next_written(int file, off_t from)
+{
+    off_t found = lseek(file, from, SEEK_DATA);
+    return found < 0 && errno == EINVAL ? from : found;
+}
+
+/* How far the file has room on the disk. */
+static size_t room_of(int file, size_t size)
+{
+    off_t hole = lseek(file, 0, SEEK_HOLE);
+    return hole >= 0 && (size_t)hole < size && lseek(file, hole, SEEK_DATA) < 0 ? (size_t)hole : size;
+}
+
+/*
+ * What the file has outside its holes, in memory of one's own: so it may be mended where it is damaged. It isn't mapped,
+ * since whoever writes it may cut it meanwhile, and what was cut off can't be touched.
+ */
+static void *read_pieces(struct stream *stream, int file, size_t size)
+{
+    enum { PIECE = 1 << 20 };
+    static char nothing[1];
+    stream->mapped = room_of(file, size);
+    if (stream->mapped == 0)
+        return nothing;
+    char *bytes = mmap(NULL, stream->mapped, PROT_READ | PROT_WRITE, MAP_PRIVATE | MAP_ANONYMOUS | MAP_NORESERVE, -1, 0);
+    off_t at = 0;
+    while (bytes != MAP_FAILED && (at = next_written(file, at)) >= 0 && (size_t)at < stream->mapped) {
+        size_t left = stream->mapped - (size_t)at;
+        ssize_t got = pread(file, bytes + at, left < PIECE ? left : PIECE, at);
+        if (got <= 0)
+            break;
+        at += got;
+    }
+    return bytes;
+}
+
+bool stream_open(struct stream *stream, const char *path, bool goes_on)
+{
+    struct stat status;
+    void *bytes = MAP_FAILED;
+    *stream = (struct stream){0};
+    int file = open(path, O_RDONLY | O_CLOEXEC | O_NONBLOCK);
+    if (file < 0)
+        return false;
+    bool opened = fstat(file, &status) == 0;
+    if (opened && !S_ISREG(status.st_mode)) {
+        errno = S_ISDIR(status.st_mode) ? EISDIR : EINVAL;
+        opened = false;
+    }
+    if (opened) {
+        bytes = read_pieces(stream, file, (size_t)status.st_size);
+        opened = bytes != MAP_FAILED;
+    }
+    int error = errno;
+    close(file);
+    errno = error;
+    if (!opened)
+        return false;
+    find_lines(stream, bytes, goes_on);
+    stream->path = copy(path);
+    stream->program = program_in(stream);
+    stream->process = process_of(path);
+    stream->answered = stream->length > ASKED_AT && stream->bytes[ASKED_AT] == ASKED_NOT;
+    return true;
+}
+
+void stream_close(struct stream *stream)
+{
+    if (stream->mapped > 0)
+        munmap((void *)stream->bytes, stream->mapped);
+    free(stream->path);
+    free(stream->program);
+    *stream = (struct stream){0};
+}
+
+size_t stream_room(const char *path)
+{
+    struct stat status;
+    size_t room = 0;
+    int file = open(path, O_RDONLY | O_CLOEXEC | O_NONBLOCK);
+    if (file >= 0 && fstat(file, &status) == 0)
+        room = room_of(file, (size_t)status.st_size);
+    if (file >= 0)
+        close(file);
+    return room;
+}
+
+bool stream_count(const struct stream *stream, const char *name, unsigned long *count)
+{
+    struct line line;
+    const char *at = stream->bytes;
+    if (!line_next(&line, &at, stream->bytes + stream->length))
+        return false;
+    for (unsigned i = 0; i + 1 < line.count; i++) {
+        uint32_t value;
+        if (field_is(&line, i, name) && field_number(&line, i + 1, UINT32_MAX - 1, &value)) {
+            *count = value;
+            return true;
+        }
+    }
+    return false;
+}
+
+char *stream_first_line(const struct stream *stream)
+{
+    const char *end = stream->length > 0 ? memchr(stream->bytes, '\n', stream->length) : NULL;
+    return copy_bytes(stream->bytes, end ? (size_t)(end - stream->bytes) : 0);
+}

@@ -1,0 +1,147 @@
+#include "thread_locks.h"
+
+#include <dirent.h>
+#include <stdlib.h>
+#include <string.h>
+
+#include "memory.h"
+#include "place_words.h"
+#include "thread_label.h"
+
+/* What is told of each seat, and which locks that names. */
+struct scene {
+    struct process *process;
+    char *text[SEATS_MOST + 1]; /* NULL where there is nothing */
+    char **name;
+    size_t names, room;
+};
+
+/* What is known of a seat's thread. */
+static char *label_of(const struct notes *notes, unsigned seat)
+{
+    for (size_t i = notes->events; i > 0; i--)
+        if (notes->event[i - 1].kind == EVENT_THREAD && notes->event[i - 1].seat == seat)
+            return thread_label(&notes->event[i - 1]);
+    return copy("");
+}
+
+/* A line of the seat. The first one says which thread it is. What is told there is let go. */
+static void add(struct scene *scene, unsigned seat, char *what, struct piece at)
+{
+    const struct notes *notes = &scene->process->notes;
+    char *before = scene->text[seat], *place = copy_bytes(at.at, (size_t)at.length);
+    char *label = before ? copy("") : label_of(notes, seat), *told = place_told(notes_site(notes, place));
+    scene->text[seat] = say_text("%s seat %u%s %s %s\n", before ? before : "", seat, label, what, told);
+    free(told);
+    free(label);
+    free(place);
+    free(before);
+    free(what);
+}
+
+/* What the seat holds, newest first, and what it asks for. */
+static void add_seat(struct scene *scene, unsigned number)
+{
+    const struct notes *notes = &scene->process->notes;
+    const struct seat *seat = &scene->process->state.holdings.seat[number];
+    for (size_t i = seat->count; i > 0; i--) {
+        const struct holding *held = &seat->held[i - 1];
+        const char *name = notes_lock(notes, held->lock)->name;
+        ADD(scene->name, scene->names, scene->room) = copy(name);
+        add(scene, number, say_text("holds \"%s\"%s", name, held->shared ? " (shared)" : ""), held->place);
+    }
+    if (seat->asked)
+        add(scene, number, say_text("waits for \"%s\"", notes_lock(notes, seat->asked)->name), seat->asked_at);
+}
+
+/* The name that the thread has now; NULL where the process has no such thread. */
+static char *task_name(long process, long thread)
+{
+    char name[64] = "";
+    char *path = say_text("/proc/%ld/task/%ld/comm", process, thread);
+    FILE *from = fopen(path, "re");
+    free(path);
+    if (!from)
+        return NULL;
+    if (!fgets(name, sizeof name, from))
+        name[0] = '\0';
+    fclose(from);
+    name[strcspn(name, "\n")] = '\0';
+    return copy(name);
+}
+
+static bool is_told(const struct scene *scene, const char *name)
+{
+    for (size_t i = 0; i < scene->names; i++)
+        if (strcmp(scene->name[i], name) == 0)
+            return true;
+    return false;
+}
+
+/*
+ * What the program has answered of mutexes, as far as the trace doesn't have it and the thread is one of the process: after
+ * a fork a mutex may be held by one of the parent.
+ */
+static void write_answer(FILE *to, const struct scene *scene)
+{
+    const struct notes *notes = &scene->process->notes;
+    size_t from = 0;
+    for (size_t i = 0; i < notes->events; i++)
+        if (notes->event[i].kind == EVENT_ANSWER)
+            from = i;
+    for (size_t i = from; i < notes->events; i++) {
+        const struct event *holder = &notes->event[i];
+        if (holder->kind != EVENT_HOLDER || is_told(scene, holder->name ? holder->name : ""))
+            continue;
+        char *task = task_name(scene->process->recording->process, holder->thread);
+        if (task)
+            fprintf(to, " thread %ld (%s) holds \"%s\"\n", holder->thread, task, holder->name ? holder->name : "");
+        free(task);
+    }
+}
+
+static void end_scene(struct scene *scene)
+{
+    for (size_t i = 0; i <= SEATS_MOST; i++)
+        free(scene->text[i]);
+    for (size_t i = 0; i < scene->names; i++)
+        free(scene->name[i]);
+    free(scene->name);
+    free(scene);
+}
+
+static void tell_scene(const struct scene *scene)
+{
+    static const char head[] = "held now:\n";
+    const struct process *process = scene->process;
+    char *text = NULL;
+    size_t length = 0;
+    FILE *to = open_memstream(&text, &length);
+    if (!to)
+        return;
+    fputs(head, to);
+    for (size_t i = 0; i <= SEATS_MOST; i++)
+        if (scene->text[i])
+            fputs(scene->text[i], to);
+    if (process->stream.answered)
+        write_answer(to, scene);
+    fclose(to);
+    if (length > sizeof head - 1)
+        tell(&process->run->output, text, length);
+    free(text);
+}
+
+void tell_held(struct process *process)
+{
+    if (process->run->ending->how != HOW_RUNNING || !process->has_state)
+        return;
+    struct scene *scene = take(sizeof *scene);
+    scene->process = process;
+    for (unsigned seat = 1; seat <= SEATS_MOST; seat++)
+        add_seat(scene, seat);
+    tell_scene(scene);
+    end_scene(scene);
+    if (!process->stream.answered)
+        say(&process->run->output,
+            "%s: no thread asked for a lock meanwhile, so of what is held only what the trace has is told", process->name);
+}

@@ -1,0 +1,52 @@
+/*
+ * Orders of libraries that are right though both ways are seen: lists of them (recorder/known/), and what they silence in a
+ * stream.
+ *
+ * A line is OBJECT "HELD" "ASKED" in "FUNCTION".. : a lock that ASKED made is asked for in a call of one of the functions, while
+ * one that HELD made is held; both are the object's. "HELD" alone is of two locks that one function makes. A library that has no
+ * names for its functions is believed to be in the right one.
+ */
+#ifndef RECORD_RIGHT_ORDERS_H
+#define RECORD_RIGHT_ORDERS_H
+
+#include <stddef.h>
+
+#include "declarations.h"
+#include "ignore.h"
+#include "notes.h"
+#include "stream_file.h"
+#include "types.h"
+
+enum { RIGHT_FUNCTIONS = 8 };
+
+struct right_order {
+    const char *object; /* a pattern for the object's name, without its version */
+    const char *held, *asked;
+    const char *function[RIGHT_FUNCTIONS];
+    size_t functions;
+};
+
+struct right_orders {
+    struct right_order *order;
+    size_t count, room;
+    struct texts *texts;
+};
+
+/*
+ * Adds what the file has, or all files of the folder whose names end in `.known`. The answer is the number of the first bad
+ * line, else 0.
+ */
+size_t right_orders_read(struct right_orders *right, const char *path);
+void right_orders_end(struct right_orders *right);
+
+/* Where the lists of `record` stand, a text of one's own; NULL where they aren't there. `here` has its script. */
+char *right_orders_place(const char *here);
+
+/*
+ * Silences each pair of types, and each type, of which both orders are in the stream, all in the lists' direction are right, and
+ * no single locks were taken both ways. The notes have the libraries whose orders these are.
+ */
+void right_orders_silence(const struct right_orders *right, const struct stream *stream, const struct declared *declared,
+    const struct types *types, struct peace *peace, struct notes *notes);
+
+#endif

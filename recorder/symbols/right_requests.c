@@ -1,0 +1,329 @@
+#include "right_orders.h"
+
+#include "code_words.h"
+#include "format.h"
+#include "lasting_variables.h"
+#include "map.h"
+#include "memory.h"
+#include "sites.h"
+#include "steps.h"
+#include "texts.h"
+
+#include <fnmatch.h>
+#include <stdlib.h>
+#include <string.h>
+
+/* The locks that a seat holds, by numbers of the stream. */
+struct held {
+    uint32_t *lock;
+    size_t count, room;
+};
+
+/* A request that the stream has, by its types. */
+struct met {
+    uint32_t held, asked;
+    bool is_right, is_wrong; /* a list has the request; none has it */
+    const char *library;
+};
+
+struct reading {
+    const struct right_orders *right;
+    const struct declared *declared;
+    const struct types *types;
+    uint32_t *type; /* of each lock */
+    size_t locks, lock_room;
+    struct held *seat;
+    struct map known;  /* requests that are in the list */
+    struct map single; /* of two single locks, in that order */
+    bool lacks_pairs;
+    struct met *met;
+    size_t mets, met_room;
+};
+
+/* The name by which others ask for the object, or its file's; of a library without its version. */
+static bool is_object(const struct declared *declared, uint32_t number, const char *pattern)
+{
+    struct binary *binary = binary_of_object(declared, number);
+    const char *soname = binary ? binary_file(binary)->soname : NULL;
+    const char *name = soname ? soname : object_name(declared, number);
+    struct code_words words = {.object = name, .object_length = strlen(name)};
+    char *plain = copy_bytes(name, code_object_told(&words));
+    bool is = fnmatch(pattern, plain, 0) == 0;
+    free(plain);
+    return is;
+}
+
+/* Whether the step's function has a name. */
+static bool is_named(const struct step *step)
+{
+    return step->site || step->place->function;
+}
+
+/* Whether one of the type's places is in the object: without that no list has it, and its steps needn't be known. */
+static bool has_place_in(const struct declared *declared, const struct type *type, const char *object)
+{
+    for (size_t i = 0; i < type->count; i++) {
+        const struct place *place = place_of(declared, type->place[i]);
+        for (; place->kind == PLACE_PAIR; place = place_of(declared, place->rest))
+            if (is_object(declared, place_of(declared, place->library)->object, object))
+                return true;
+        if (place->kind == PLACE_CALL && is_object(declared, place->object, object))
+            return true;
+    }
+    return false;
+}
+
+/* Whether the function of the object makes the type's locks, or may: the innermost one has no name. */
+static bool is_made_by(const struct reading *reading, uint32_t number, const char *object, const char *function)
+{
+    const struct declared *declared = reading->declared;
+    const struct type *type = &declared->type[number];
+    if (type->has_variable)
+        return is_object(declared, type->variable.object, object)
+            && (!type->variable.name || strcmp(type->variable.name, function) == 0);
+    if (!has_place_in(declared, type, object))
+        return false;
+    struct steps steps;
+    steps_begin(&steps, declared, type);
+    bool is_there = steps.count > 0 && steps.step[0].place->kind == PLACE_CALL
+        && is_object(declared, steps.step[0].place->object, object);
+    bool is_made = is_there && !is_named(&steps.step[0]);
+    for (size_t i = 0; is_there && i < steps.count && !is_made; i++)
+        is_made = is_named(&steps.step[i]) && steps.step[i].function && strcmp(steps.step[i].function, function) == 0;
+    steps_end(&steps);
+    return is_made;
+}
+
+/* Whether the place is in one of the order's functions; `has_name` where it is in any that has a name, in the object. */
+static bool is_in(const struct reading *reading, const struct place *place, const struct right_order *order, bool *has_name)
+{
+    const struct declared *declared = reading->declared;
+    for (; place->kind == PLACE_PAIR; place = place_of(declared, place->rest))
+        if (is_in(reading, place_of(declared, place->library), order, has_name))
+            return true;
+    if (place->kind != PLACE_CALL || !is_object(declared, place->object, order->object))
+        return false;
+    const struct code *code = code_of(declared, place);
+    const char *own = function_of(declared, place);
+    *has_name |= own != NULL;
+    for (size_t i = 0; i < order->functions; i++) {
+        if (own && strcmp(own, order->function[i]) == 0)
+            return true;
+        for (size_t frame = 0; frame < code->count; frame++)
+            if (code->frame[frame].function && strcmp(code->frame[frame].function, order->function[i]) == 0)
+                return true;
+    }
+    return false;
+}
+
+/* Whether a request at that place and with that stack comes by way of one of the order's functions, or may. */
+static bool is_by_way(const struct reading *reading, const struct right_order *order, uint32_t place, uint32_t stack)
+{
+    const struct declared *declared = reading->declared;
+    bool has_name = false, is_there = is_in(reading, place_of(declared, place), order, &has_name);
+    for (size_t i = 0; stack > 0 && stack < declared->stacks && !is_there && i < declared->stack[stack].count; i++)
+        is_there = is_in(reading, place_of(declared, declared->stack[stack].place[i]), order, &has_name);
+    return is_there || !has_name;
+}
+
+/* The order of the lists that the request is; NULL where it is none. */
+static const struct right_order *right_order_of(
+    const struct reading *reading, uint32_t held, uint32_t asked, uint32_t place, uint32_t stack)
+{
+    for (size_t i = 0; i < reading->right->count; i++) {
+        const struct right_order *order = &reading->right->order[i];
+        if (is_made_by(reading, held, order->object, order->held) && is_made_by(reading, asked, order->object, order->asked)
+            && is_by_way(reading, order, place, stack))
+            return order;
+    }
+    return NULL;
+}
+
+/* The name of the order's object, as it is told. */
+static const char *library_of(const struct reading *reading, uint32_t type)
+{
+    const struct type *declared = &reading->declared->type[type];
+    struct steps steps;
+    steps_begin(&steps, reading->declared, declared);
+    uint32_t object = declared->has_variable ? declared->variable.object : steps.count > 0 ? steps.step[0].place->object : 0;
+    steps_end(&steps);
+    struct code_words words = {.object = object_name(reading->declared, object)};
+    words.object_length = strlen(words.object);
+    return texts_copy(reading->declared->texts, words.object, code_object_told(&words));
+}
+
+static void note_request(struct reading *reading, uint32_t held, uint32_t asked, uint32_t place, uint32_t stack)
+{
+    const uint32_t key[] = {held, asked, place, stack};
+    size_t *known = map_add(&reading->known, key, sizeof key);
+    if (*known)
+        return;
+    const struct right_order *order = right_order_of(reading, held, asked, place, stack);
+    *known = 1;
+    ADD(reading->met, reading->mets, reading->met_room) = (struct met){
+        held, asked, order != NULL, order == NULL, order ? library_of(reading, asked) : NULL};
+}
+
+/* Of two types: they aren't silenced. */
+static void add_wrong(struct reading *reading, uint32_t held, uint32_t asked)
+{
+    ADD(reading->met, reading->mets, reading->met_room) = (struct met){.held = held, .asked = asked, .is_wrong = true};
+}
+
+/* `pair SEAT THREAD AT PLACE LOCK SERIAL TYPE MODE LOCK SERIAL TYPE MODE`: what was taken both ways may hang. */
+static void read_pair(struct reading *reading, const struct line *line)
+{
+    uint32_t held = 0, asked = 0, held_type = 0, asked_type = 0;
+    field_number(line, PAIR_HELD + PAIR_SERIAL, UINT32_MAX - 1, &held);
+    field_number(line, PAIR_ASKED + PAIR_SERIAL, UINT32_MAX - 1, &asked);
+    if (!field_number(line, PAIR_HELD + PAIR_TYPE, TYPE_MOST - 1, &held_type)
+        || !field_number(line, PAIR_ASKED + PAIR_TYPE, TYPE_MOST - 1, &asked_type)
+        || held_type >= reading->types->count || asked_type >= reading->types->count)
+        return;
+    const uint32_t key[] = {held, asked}, other[] = {asked, held};
+    *map_add(&reading->single, key, sizeof key) = 1;
+    if (map_find(&reading->single, other, sizeof other) == 0)
+        return;
+    held_type = reading->types->type[held_type].first;
+    asked_type = reading->types->type[asked_type].first;
+    add_wrong(reading, held_type, asked_type);
+    add_wrong(reading, asked_type, held_type);
+}
+
+static uint32_t type_of(const struct reading *reading, uint32_t lock)
+{
+    return lock > 0 && lock <= reading->locks ? reading->type[lock - 1] : 0;
+}
+
+/* `check SEAT LOCK MODE n PLACE STACK`. */
+static void read_check(struct reading *reading, const struct line *line, struct held *seat, uint32_t lock)
+{
+    uint32_t place = 0, stack = 0, asked = type_of(reading, lock);
+    field_number(line, 5, PLACE_MOST - 1, &place);
+    if (line->count > 6 && !field_number(line, line->count - 1, STACK_MOST - 1, &stack))
+        stack = 0;
+    for (size_t i = 0; asked && i < seat->count; i++)
+        if (seat->lock[i] != lock && type_of(reading, seat->lock[i]))
+            note_request(reading, type_of(reading, seat->lock[i]), asked, place, stack);
+}
+
+static void release(struct held *seat, uint32_t lock)
+{
+    for (size_t i = seat->count; i > 0; i--)
+        if (seat->lock[i - 1] == lock) {
+            memmove(seat->lock + i - 1, seat->lock + i, (seat->count - i) * sizeof *seat->lock);
+            seat->count--;
+            return;
+        }
+}
+
+static void read_init(struct reading *reading, const struct line *line)
+{
+    uint32_t number;
+    if (!field_number(line, 4, TYPE_MOST - 1, &number) || number >= reading->types->count)
+        number = 0;
+    ADD(reading->type, reading->locks, reading->lock_room) = number ? reading->types->type[number].first : 0;
+}
+
+static void read_call(struct reading *reading, const struct line *line)
+{
+    uint32_t number, lock;
+    if (field_is(line, 0, WORD_INIT))
+        read_init(reading, line);
+    if (field_is(line, 0, WORD_PAIR))
+        read_pair(reading, line);
+    reading->lacks_pairs |= field_is(line, 0, WORD_MANY);
+    if (field_is(line, 0, WORD_INIT) || field_is(line, 0, WORD_PAIR))
+        return;
+    if (!field_number(line, 1, SEAT_MOST - 1, &number) || !field_number(line, 2, LOCK_MOST, &lock))
+        return;
+    struct held *seat = &reading->seat[number];
+    if (field_is(line, 0, WORD_CHECK))
+        read_check(reading, line, seat, lock);
+    else if (field_is(line, 0, WORD_LOCK) || field_is(line, 0, WORD_TRY))
+        ADD(seat->lock, seat->count, seat->room) = lock;
+    else if (field_is(line, 0, WORD_UNLOCK))
+        release(seat, lock);
+}
+
+/* Whether one of the types may be a list's; else the stream needn't be read. */
+static bool has_any(const struct reading *reading)
+{
+    for (uint32_t number = 1; number < reading->types->count; number++)
+        for (size_t i = 0; reading->types->type[number].first == number && i < reading->right->count; i++) {
+            const struct right_order *order = &reading->right->order[i];
+            if (is_made_by(reading, number, order->object, order->held))
+                return true;
+        }
+    return false;
+}
+
+/* Whether the two were asked for in that order, and all such requests are right; the library. */
+static const char *library_if_right(const struct reading *reading, uint32_t held, uint32_t asked, bool *is_met)
+{
+    const char *library = NULL;
+    bool is_wrong = false;
+    for (size_t i = 0; i < reading->mets; i++) {
+        const struct met *met = &reading->met[i];
+        if (met->held != held || met->asked != asked)
+            continue;
+        *is_met = true;
+        is_wrong |= met->is_wrong;
+        library = met->is_right ? met->library : library;
+    }
+    return is_wrong ? NULL : library;
+}
+
+static bool has_pair(const struct peace *peace, const char *first, const char *second)
+{
+    for (size_t i = 0; i < peace->pairs; i++) {
+        const struct name_pair *pair = &peace->pair[i];
+        if ((strcmp(pair->first, first) == 0 && strcmp(pair->second, second) == 0)
+            || (strcmp(pair->first, second) == 0 && strcmp(pair->second, first) == 0))
+            return true;
+    }
+    return false;
+}
+
+/* What is right of the two is silenced where the other way was met, too. */
+static void silence(const struct reading *reading, const struct met *met, struct peace *peace, struct notes *notes)
+{
+    const char *held = reading->types->type[met->held].name, *asked = reading->types->type[met->asked].name;
+    bool is_met = false, is_other_met = false, is_double = met->held == met->asked;
+    const char *library = library_if_right(reading, met->held, met->asked, &is_met);
+    library_if_right(reading, met->asked, met->held, &is_other_met);
+    if (!library || !is_other_met || (is_double ? map_has_text(&peace->names, held) : has_pair(peace, held, asked)))
+        return;
+    if (is_double)
+        *map_add_text(&peace->names, held) = 1;
+    else
+        ADD(peace->pair, peace->pairs, peace->pair_room) = (struct name_pair){held, asked};
+    for (size_t i = 0; notes && i < notes->libraries; i++)
+        if (strcmp(notes->library[i], library) == 0)
+            return;
+    if (notes)
+        ADD(notes->library, notes->libraries, notes->library_room) = texts_copy(notes->texts, library, strlen(library));
+}
+
+void right_orders_silence(const struct right_orders *right, const struct stream *stream, const struct declared *declared,
+    const struct types *types, struct peace *peace, struct notes *notes)
+{
+    struct reading reading = {.right = right, .declared = declared, .types = types};
+    struct line line;
+    const char *at = stream->bytes, *end = stream->bytes + stream->length;
+    if (right->count == 0 || !has_any(&reading))
+        return;
+    reading.seat = take(SEAT_MOST * sizeof *reading.seat);
+    while (line_next(&line, &at, end))
+        read_call(&reading, &line);
+    for (size_t i = 0; i < reading.mets && !reading.lacks_pairs; i++)
+        if (reading.met[i].is_right)
+            silence(&reading, &reading.met[i], peace, notes);
+    for (size_t i = 0; i < SEAT_MOST; i++)
+        free(reading.seat[i].lock);
+    free(reading.seat);
+    free(reading.type);
+    free(reading.met);
+    map_end(&reading.known);
+    map_end(&reading.single);
+}
