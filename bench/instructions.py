@@ -13,6 +13,7 @@ KINDS = {
     "the place": ["place_slot", "place_at_pc", "place_at", "detour_at"],
     "the lock": ["lock_bucket", "lock_at"],
     "what is asked for is known": ["locks_with", "locks_held", "is_remembered", "remember"],
+    "the errand": ["errand_releases", "release_of", "errand_keeps"],
     "the chain": ["held_fill", "quick_is_known", "quick_ends", "is_held_once", "quick_released"],
 }
 KIND_OF = {name: kind for kind, names in KINDS.items() for name in names}

@@ -2,7 +2,7 @@
 # Runs programs of Debian under `record`, each with its load, one at a time, and prints for each report of a run what is said of
 # its single locks. usage: bench/programs.sh [NAME..]; without names all are run. RECORD names another recorder's command; what
 # each run printed stays in the folder OUT, else in one that is named in the end. What isn't installed is left out. The table of
-# docs/RECORDER.md is made of it: whether a report is true is for the reader of the program's source.
+# bench/programs.md is made of it: whether a report is true is for the reader of the program's source.
 set -u
 here=$(dirname "$(readlink -f "$0")")
 record=${RECORD:-$here/../recorder/record}

@@ -136,7 +136,7 @@ if command -v node >/dev/null; then
 fi
 # A recorder that writes each request.
 cc -std=c11 -D_GNU_SOURCE -DWRITE_ALL -O2 -fPIC -shared -fexceptions -fvisibility=hidden -pthread -static-libgcc -Wl,-z,now \
-    -o "$folder/all.so" "$recorder"/*.c "$here/../crates/wit_condensed_c/out/libwit_condensed_c.a" -Wl,--exclude-libs,ALL -ldl
+    -I"$recorder" -I"$recorder/runtime" -o "$folder/all.so" "$recorder"/runtime/*.c "$here/../crates/wit_condensed_c/out/libwit_condensed_c.a" -Wl,--exclude-libs,ALL -ldl
 for rounds in 138000 1380000; do
     rm -rf "$folder/records" && mkdir "$folder/records"
     env RECORDER_DIRECTORY="$folder/records" LD_PRELOAD="$folder/all.so" "$folder/pairs" 4 1 "$rounds" >/dev/null

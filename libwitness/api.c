@@ -1,7 +1,7 @@
 /* What a program says to the library (libwitness.h). */
 #include "judge.h"
 #include "libwitness.h"
-#include "report.h"
+#include "report_action.h"
 
 EXPORT int witness_start(void)
 {

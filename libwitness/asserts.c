@@ -4,9 +4,9 @@
  * holds.
  */
 #include "judge.h"
-#include "judged.h"
+#include "judge_place.h"
 #include "names.h"
-#include "report.h"
+#include "report_action.h"
 
 #include <string.h>
 

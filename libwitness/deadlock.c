@@ -2,14 +2,14 @@
  * A deadlock that happens, told while it hangs (WITNESS_ON_DEADLOCK). There is no thread of the library's own for that:
  * the one whose request closes the circle waits for a second by a call with a time limit, and then looks again. A
  * request of a known order is written when it has waited for a second, and is looked at then. So each of the circle has
- * waited for a second, or waits for a condition (recorder/waiters.c), and the last one tells. It goes by the verifier's
+ * waited for a second, or waits for a condition (recorder/runtime/waiters.c), and the last one tells. It goes by the verifier's
  * circle.
  */
 #include "judge.h"
-#include "judged.h"
+#include "judge_place.h"
 #include "names.h"
-#include "report.h"
-#include "told.h"
+#include "place_text.h"
+#include "report_action.h"
 
 #include <stdlib.h>
 #include <string.h>

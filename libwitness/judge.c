@@ -1,14 +1,14 @@
 /*
  * Gives the verifier each line of the stream while it is written, under the recorder's mutex. Locks and seats have the
- * stream's numbers: both count the lines of `init`. The head of recorder/write.c says why the lines are a legal history.
+ * stream's numbers: both count the lines of `init`. The head of recorder/runtime/write.c says why the lines are a legal history.
  *
  * The verifier is made at the first line. So a program, or a child of fork, that never asks for a second lock has none.
  */
 #include "judge.h"
 
-#include "judged.h"
+#include "judge_place.h"
 #include "names.h"
-#include "report.h"
+#include "report_action.h"
 
 #include <stdlib.h>
 #include <string.h>

@@ -7,8 +7,8 @@
  *
  * CLASS is mtx or rw. After a line may stand a comment, from # on. A line that isn't one of these is told and passed over.
  */
-#include "judged.h"
-#include "report.h"
+#include "judge_place.h"
+#include "report_action.h"
 
 #include <fcntl.h>
 #include <stdlib.h>

@@ -3,8 +3,8 @@
  * functions that made it, and OBJECT+0xOFFSET(FUNCTION+0xWITHIN) for a place (told.h tells it otherwise). The file of
  * --ignore of `record` may have them. What the program names by itself has that name: a type, and a place by its file and line.
  */
-#include "label.h"
 #include "names.h"
+#include "label.h"
 
 #include <stdio.h>
 #include <string.h>

@@ -2,7 +2,7 @@
 #ifndef WITNESS_NAMES_H
 #define WITNESS_NAMES_H
 
-#include "../recorder/recorder.h"
+#include "recorder.h"
 
 /* Names have up to 63 bytes, those of files up to 255; and a zero. */
 enum { NAME_ROOM = 64, FILE_ROOM = 256 };

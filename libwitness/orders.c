@@ -3,9 +3,9 @@
  * known: it is defined when both have a number in the stream.
  */
 #include "judge.h"
-#include "judged.h"
+#include "judge_place.h"
 #include "libwitness.h"
-#include "report.h"
+#include "report_action.h"
 
 enum { WANTED_MOST = 1024, FIRST = 0, SECOND = 1 };
 

@@ -11,7 +11,7 @@ def is_passed_over(frame):
     path = symtab.fullname() if symtab else ""
     if os.path.basename(gdb.solib_name(frame.pc()) or "").startswith("libwitness.so"):
         return True
-    return os.path.basename(os.path.dirname(path)) in ("libwitness", "recorder") or "/c++/" in path
+    return os.path.dirname(path).endswith(("/libwitness", "/recorder/runtime")) or "/c++/" in path
 
 
 def stand(event):

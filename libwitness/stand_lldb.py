@@ -10,7 +10,7 @@ def is_passed_over(frame):
     path = frame.GetLineEntry().GetFileSpec().fullpath or ""
     if (frame.GetModule().GetFileSpec().basename or "").startswith("libwitness.so"):
         return True
-    return os.path.basename(os.path.dirname(path)) in ("libwitness", "recorder") or "/c++/" in path
+    return os.path.dirname(path).endswith(("/libwitness", "/recorder/runtime")) or "/c++/" in path
 
 
 class Stand:

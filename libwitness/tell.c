@@ -3,7 +3,7 @@
  * open. Nothing is written to a descriptor 2 that isn't the file any more that it was at the start: the program may
  * have closed that one, and have a socket there.
  */
-#include "report.h"
+#include "report_action.h"
 
 #include <errno.h>
 #include <fcntl.h>

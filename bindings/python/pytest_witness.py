@@ -85,6 +85,14 @@ def _answer(listener, record, option, folder):
         pass
 
 
+def _of_single_locks(single):
+    """Whether these very locks were taken both ways, and how the threads come to hang."""
+    if not single:
+        return []
+    schedule = single.get("schedule")
+    return [single["text"]] + (["hangs so: " + schedule["text"]] if schedule and schedule["result"] == "hangs" else [])
+
+
 def _reports(record, option, records, file):
     known = option.witness_learn or option.witness_known
     orders = ["--known", known] if known and os.path.exists(known) else []
@@ -97,7 +105,7 @@ def _reports(record, option, records, file):
             found = json.load(opened)
     except (OSError, ValueError):
         return []
-    texts = ["\n".join(each["text"] + ([each["single"]["text"]] if each["single"] else []))
+    texts = ["\n".join(each["text"] + _of_single_locks(each["single"]))
              for each in found["reports"] if not each["silenced"] and each["kind"] in ("reversal", "duplicate", "circle", "self")
              and (each["kind"] != "duplicate" or each["counts"])]
     return texts + ["against an order of %s: %s" % (known, line[2:].split("\t")[0]) for line in found["told"] if line.startswith("! ")]

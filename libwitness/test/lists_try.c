@@ -2,8 +2,8 @@
  * Reads the file that WITNESS_ORDERS names and says how much was in it: the reader of lists by itself. What it takes
  * from the rest of the library is here.
  */
-#include "../judged.h"
-#include "../report.h"
+#include "../judge_place.h"
+#include "../report_action.h"
 
 #include <stdarg.h>
 #include <stdio.h>

@@ -51,7 +51,7 @@ lists() {
 
 if wanted lists; then
     "${CC:-cc}" -std=c11 -D_GNU_SOURCE -DLIBWITNESS -g -Wall -Wextra -Werror -fsanitize=address,undefined \
-        -fno-sanitize-recover=all -I"$top/recorder" -o lists_try "$here/lists_try.c" "$top/libwitness/lists.c"
+        -fno-sanitize-recover=all -I"$top/recorder" -I"$top/recorder/runtime" -o lists_try "$here/lists_try.c" "$top/libwitness/lists.c"
     lists "0 lists of 0 types, 0 pairs, 0 doubled, 0 told" "" "  " "# a" "  # b" &&
         lists "1 lists of 3 types, 0 pairs, 0 doubled, 0 told" 'order mtx "a" rw "b" mtx "c" # d' &&
         lists "2 lists of 4 types, 2 pairs, 1 doubled, 0 told" 'order mtx "a" mtx "b"' 'bless "a" "b"' '"c"' \
@@ -75,8 +75,8 @@ fi
 if wanted warnings; then
     for compiler in gcc clang; do
         command -v $compiler >/dev/null || continue
-        $compiler -std=c11 -D_GNU_SOURCE -DLIBWITNESS -fsyntax-only -Wall -Wextra -Werror -pthread -I"$top/recorder" \
-            "$top"/recorder/*.c "$top"/libwitness/*.c
+        $compiler -std=c11 -D_GNU_SOURCE -DLIBWITNESS -fsyntax-only -Wall -Wextra -Werror -pthread -I"$top/recorder" -I"$top/recorder/runtime" \
+            "$top"/recorder/runtime/*.c "$top"/libwitness/*.c
         tell warnings "$compiler" $?
     done
 fi

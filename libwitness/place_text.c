@@ -2,7 +2,7 @@
  * How texts of the verifier tell what has no source line. The verifier knows a place as a file and a line. The library has an
  * object and offsets in place of these, which few people read: so what goes out has the function first.
  */
-#include "told.h"
+#include "place_text.h"
 
 #include "code_words.h"
 #include "names.h"

@@ -4,11 +4,11 @@
  * witness_reported; and then comes what WITNESS_ON_REPORT says. The thread is inside the recorder meanwhile, so no lock
  * that the program's function takes is judged.
  */
-#include "report.h"
+#include "report_action.h"
 
 #include "judge.h"
 #include "names.h"
-#include "told.h"
+#include "place_text.h"
 #include "verifier.h"
 
 #include <errno.h>

@@ -1,6 +1,6 @@
 /* How texts of the verifier tell what has no source line (told.c). */
-#ifndef WITNESS_TOLD_H
-#define WITNESS_TOLD_H
+#ifndef WITNESS_PLACE_TEXT_H
+#define WITNESS_PLACE_TEXT_H
 
 #include <stddef.h>
 

@@ -1,10 +1,10 @@
 /* What a program asks to be shown (witness_show): which locks are held, as the verifier and the mutexes themselves say. */
 #include "judge.h"
-#include "judged.h"
+#include "judge_place.h"
 #include "libwitness.h"
 #include "names.h"
-#include "report.h"
-#include "told.h"
+#include "place_text.h"
+#include "report_action.h"
 
 #include <errno.h>
 #include <string.h>

@@ -1,8 +1,8 @@
 /* What the library's files share of the verifier (judge.c). All of it is under the recorder's mutex. */
-#ifndef WITNESS_JUDGED_H
-#define WITNESS_JUDGED_H
+#ifndef WITNESS_JUDGE_PLACE_H
+#define WITNESS_JUDGE_PLACE_H
 
-#include "../recorder/recorder.h"
+#include "recorder.h"
 #include "verifier.h"
 
 /* The verifier, NULL where nothing is judged any more. */

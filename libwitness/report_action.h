@@ -1,9 +1,9 @@
 /* Reports (report.c), and where the library tells what it has to tell (tell.c). */
-#ifndef WITNESS_REPORT_H
-#define WITNESS_REPORT_H
+#ifndef WITNESS_REPORT_ACTION_H
+#define WITNESS_REPORT_ACTION_H
 
-#include "../recorder/recorder.h"
 #include "libwitness.h"
+#include "recorder.h"
 
 /* Reads from the environment what is to be done at a report. Once, outside the mutex. */
 void reports_begin(void);
