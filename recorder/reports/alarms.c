@@ -4,7 +4,7 @@
 #include <stdlib.h>
 #include <string.h>
 
-#include "memory.h"
+#include "allocation.h"
 #include "place_words.h"
 
 const struct alarms_wanted alarms_usual = {.least = GRADE_ONE_THREAD};

@@ -4,7 +4,7 @@
 #include <string.h>
 
 #include "holdings.h"
-#include "memory.h"
+#include "allocation.h"
 #include "thread_label.h"
 
 static bool waits_for_itself(const struct notes *notes)

@@ -5,7 +5,7 @@
 #include <stdlib.h>
 #include <string.h>
 
-#include "memory.h"
+#include "allocation.h"
 
 const char *const kinds[KINDS] = {
     [REPORT_REVERSAL] = "reversal", [REPORT_DUPLICATE] = "duplicate", [REPORT_CIRCLE] = "circle",

@@ -4,7 +4,7 @@
 #include <stdlib.h>
 #include <string.h>
 
-#include "memory.h"
+#include "allocation.h"
 
 /* So many processes are named. */
 enum { NAMED_MOST = 8 };

@@ -3,7 +3,7 @@
 #include <inttypes.h>
 #include <stdlib.h>
 
-#include "memory.h"
+#include "allocation.h"
 
 enum { LOCKS_IN_CHUNK = 5 };
 

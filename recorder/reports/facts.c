@@ -5,7 +5,7 @@
 #include <string.h>
 
 #include "format.h"
-#include "memory.h"
+#include "allocation.h"
 
 /* The type that a line of the report adds to its circle: the one that was asked for, then those of the established order. */
 static const char *type_of(const struct report *report, size_t line)

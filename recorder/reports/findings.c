@@ -6,7 +6,7 @@
 #include <stdlib.h>
 #include <string.h>
 
-#include "memory.h"
+#include "allocation.h"
 
 struct found *findings_add(struct findings *findings, const char *program, long process)
 {

@@ -8,7 +8,7 @@
 #include "document.h"
 #include "error_words.h"
 #include "grades.h"
-#include "memory.h"
+#include "allocation.h"
 #include "output_files.h"
 #include "pictures.h"
 #include "replay.h"

@@ -5,7 +5,7 @@
 #include <string.h>
 
 #include "facts.h"
-#include "memory.h"
+#include "allocation.h"
 #include "schedules.h"
 #include "tool.h"
 

@@ -9,7 +9,7 @@
 
 #include "dot_text.h"
 #include "files.h"
-#include "memory.h"
+#include "allocation.h"
 #include "output_files.h"
 #include "show_run.h"
 #include "usage.h"

@@ -3,7 +3,7 @@
 #include <stdlib.h>
 #include <string.h>
 
-#include "memory.h"
+#include "allocation.h"
 
 /* Whether the lock of the request, or of the try, is wanted as by a reader: `WORD SEAT LOCK s ..`. */
 static bool is_shared(const struct trace_line *line)

@@ -5,7 +5,7 @@
 #include "describe.h"
 #include "json_place.h"
 #include "json_writer.h"
-#include "memory.h"
+#include "allocation.h"
 #include "sources.h"
 
 enum { VERSION = 1, TYPES_SHOWN = 64 };

@@ -5,7 +5,7 @@
 
 #include "confirm.h"
 #include "learn.h"
-#include "memory.h"
+#include "allocation.h"
 #include "replay.h"
 #include "survivors.h"
 #include "unseen_locks.h"

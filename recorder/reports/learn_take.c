@@ -4,7 +4,7 @@
 #include <string.h>
 
 #include "holdings.h"
-#include "memory.h"
+#include "allocation.h"
 #include "order_place.h"
 #include "replay.h"
 #include "trace_lines.h"

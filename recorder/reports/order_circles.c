@@ -3,7 +3,7 @@
 #include <stdint.h>
 #include <stdlib.h>
 
-#include "memory.h"
+#include "allocation.h"
 
 #define NONE SIZE_MAX
 

@@ -9,7 +9,7 @@
 
 #include "files.h"
 #include "ignore.h"
-#include "memory.h"
+#include "allocation.h"
 #include "orders_file.h"
 #include "orders_verdict.h"
 #include "output_files.h"

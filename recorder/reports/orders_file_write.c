@@ -7,7 +7,7 @@
 #include <sys/file.h>
 #include <unistd.h>
 
-#include "memory.h"
+#include "allocation.h"
 #include "output_files.h"
 
 char *learnt_path(const char *path)

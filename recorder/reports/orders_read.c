@@ -3,7 +3,7 @@
 #include <stdlib.h>
 #include <string.h>
 
-#include "memory.h"
+#include "allocation.h"
 #include "show_run.h"
 
 /* Whether the order is one that a reversal breaks. */

@@ -6,7 +6,7 @@
 
 #include "certificate.h"
 #include "files.h"
-#include "memory.h"
+#include "allocation.h"
 #include "order_circles.h"
 #include "order_sequence.h"
 #include "order_trace.h"

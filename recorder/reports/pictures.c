@@ -6,7 +6,7 @@
 
 #include "dot_text.h"
 #include "files.h"
-#include "memory.h"
+#include "allocation.h"
 #include "report_orders.h"
 #include "verdict.h"
 

@@ -9,7 +9,7 @@
 #include "files.h"
 #include "follow.h"
 #include "learn.h"
-#include "memory.h"
+#include "allocation.h"
 #include "output_files.h"
 #include "place_words.h"
 #include "replay_answers.h"

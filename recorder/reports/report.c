@@ -3,7 +3,7 @@
 #include <stdlib.h>
 #include <string.h>
 
-#include "memory.h"
+#include "allocation.h"
 #include "place_words.h"
 
 static const char reversal[] = "lock order reversal", duplicate[] = "acquiring duplicate lock";

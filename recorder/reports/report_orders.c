@@ -1,6 +1,6 @@
 #include "report_orders.h"
 
-#include "memory.h"
+#include "allocation.h"
 
 static void add(struct order_list *orders, const char *from, const char *to, const char *site, bool is_reversal)
 {

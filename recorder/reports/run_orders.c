@@ -3,7 +3,7 @@
 #include <stdlib.h>
 #include <string.h>
 
-#include "memory.h"
+#include "allocation.h"
 #include "texts.h"
 
 static const char *const classes[] = {"mtx", "rw", "sx"};

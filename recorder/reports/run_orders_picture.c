@@ -8,7 +8,7 @@
 #include "dot_text.h"
 #include "findings.h"
 #include "graph.h"
-#include "memory.h"
+#include "allocation.h"
 #include "order_circles.h"
 #include "output_files.h"
 #include "pictures.h"

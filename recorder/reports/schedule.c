@@ -2,7 +2,7 @@
 
 #include <stdlib.h>
 
-#include "memory.h"
+#include "allocation.h"
 
 const char *schedule_word(const struct schedule *schedule)
 {

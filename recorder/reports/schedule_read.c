@@ -4,7 +4,7 @@
 #include <string.h>
 
 #include "line.h"
-#include "memory.h"
+#include "allocation.h"
 #include "schedule.h"
 #include "schedule_rows.h"
 

@@ -2,7 +2,7 @@
 
 #include <stdlib.h>
 
-#include "memory.h"
+#include "allocation.h"
 
 const char *schedule_lock(const struct errand_trace *trace, const struct notes *notes, size_t number)
 {

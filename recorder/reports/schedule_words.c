@@ -3,7 +3,7 @@
 #include <stdio.h>
 #include <stdlib.h>
 
-#include "memory.h"
+#include "allocation.h"
 #include "place_words.h"
 #include "report.h"
 

@@ -4,7 +4,7 @@
 #include <string.h>
 
 #include "errand_trace.h"
-#include "memory.h"
+#include "allocation.h"
 #include "schedule.h"
 #include "schedule_read.h"
 #include "tool.h"

@@ -16,7 +16,7 @@
 #include "findings_run.h"
 #include "follow.h"
 #include "learn.h"
-#include "memory.h"
+#include "allocation.h"
 #include "output_files.h"
 #include "replay.h"
 #include "show_run.h"

@@ -4,7 +4,7 @@
 #include <string.h>
 
 #include "format.h"
-#include "memory.h"
+#include "allocation.h"
 
 /* A number after a space, before the line's end. */
 static bool read_number(const char **at, const char *end, unsigned long *number)

@@ -8,7 +8,7 @@
 #include <unistd.h>
 
 #include "map.h"
-#include "memory.h"
+#include "allocation.h"
 #include "place.h"
 #include "schedule.h"
 

@@ -3,7 +3,7 @@
 #include <stdlib.h>
 #include <string.h>
 
-#include "memory.h"
+#include "allocation.h"
 
 enum { FIELDS_MOST = 5 };
 

@@ -14,7 +14,7 @@
 #include "graph.h"
 #include "learn.h"
 #include "legality.h"
-#include "memory.h"
+#include "allocation.h"
 #include "missed_calls.h"
 #include "output_files.h"
 #include "place_words.h"

@@ -2,7 +2,7 @@
 
 #include <stdlib.h>
 
-#include "memory.h"
+#include "allocation.h"
 #include "place_words.h"
 
 char *thread_name(const struct event *thread)

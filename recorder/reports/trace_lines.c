@@ -7,7 +7,7 @@
 #include <sys/stat.h>
 #include <unistd.h>
 
-#include "memory.h"
+#include "allocation.h"
 
 bool trace_open(struct trace *trace, const char *path)
 {

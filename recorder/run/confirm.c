@@ -8,7 +8,7 @@
 
 #include "confirm_words.h"
 #include "describe.h"
-#include "memory.h"
+#include "allocation.h"
 #include "show_run.h"
 #include "steered_run.h"
 #include "steering_plan.h"

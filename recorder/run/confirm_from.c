@@ -6,7 +6,7 @@
 
 #include "confirm.h"
 #include "json_read.h"
-#include "memory.h"
+#include "allocation.h"
 #include "object_file.h"
 #include "place_words.h"
 #include "show_run.h"

@@ -4,7 +4,7 @@
 #include <stdlib.h>
 #include <string.h>
 
-#include "memory.h"
+#include "allocation.h"
 #include "place_words.h"
 
 static void add_place(struct counted_place *place, const struct plan_met *met)

@@ -7,7 +7,7 @@
 
 #include "circle.h"
 #include "follow.h"
-#include "memory.h"
+#include "allocation.h"
 #include "report_text.h"
 
 enum { SECOND = 1000000, WATCHED_FOR = 100000, STATUS_MOST = 255 };

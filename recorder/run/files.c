@@ -8,7 +8,7 @@
 #include <sys/stat.h>
 #include <unistd.h>
 
-#include "memory.h"
+#include "allocation.h"
 
 const char *file_base(const char *path)
 {

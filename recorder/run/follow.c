@@ -7,7 +7,7 @@
 #include <unistd.h>
 
 #include "deadlock_watch.h"
-#include "memory.h"
+#include "allocation.h"
 #include "replay.h"
 #include "tell_process.h"
 #include "version.h"

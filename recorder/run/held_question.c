@@ -11,7 +11,7 @@
 #include "files.h"
 #include "format.h"
 #include "interrupts.h"
-#include "memory.h"
+#include "allocation.h"
 
 /* How often the byte is looked at, and how many nanoseconds lie between. */
 enum { LOOKS = 10, PAUSE = 100000000 };

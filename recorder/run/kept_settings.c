@@ -5,7 +5,7 @@
 #include <string.h>
 
 #include "format.h"
-#include "memory.h"
+#include "allocation.h"
 #include "source_names.h"
 
 /* A line of the word and its value, which may have a newline of its own. */

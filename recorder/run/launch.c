@@ -19,7 +19,7 @@
 #include <unistd.h>
 
 #include "interrupts.h"
-#include "memory.h"
+#include "allocation.h"
 #include "usage.h"
 
 /* How many milliseconds what the program has left running is waited for. */

@@ -5,7 +5,7 @@
 #include <unistd.h>
 
 #include "files.h"
-#include "memory.h"
+#include "allocation.h"
 #include "usage.h"
 
 enum { STATUS_MOST = 255, DEBUGGER_WORDS = 14 };

@@ -3,7 +3,7 @@
 #include <string.h>
 
 #include "format.h"
-#include "memory.h"
+#include "allocation.h"
 #include "source_names.h"
 
 static bool is_blank(char byte)

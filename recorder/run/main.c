@@ -18,7 +18,7 @@
 #include "kept_settings.h"
 #include "launch.h"
 #include "libwitness_mode.h"
-#include "memory.h"
+#include "allocation.h"
 #include "misfit.h"
 #include "options.h"
 #include "orders_command.h"

@@ -1,6 +1,6 @@
 #include "map.h"
 
-#include "memory.h"
+#include "allocation.h"
 
 #include <stdlib.h>
 #include <string.h>

@@ -10,7 +10,7 @@
 #include <unistd.h>
 
 #include "files.h"
-#include "memory.h"
+#include "allocation.h"
 
 /* So much of a file is read; a script's script's script is one, and no more. */
 enum { HEAD = 1 << 16, SCRIPTS = 4 };

@@ -4,7 +4,7 @@
 #include <string.h>
 
 #include "format.h"
-#include "memory.h"
+#include "allocation.h"
 
 #define AS_NUMBER(number, name) number,
 #define AS_NAME(number, name) name,

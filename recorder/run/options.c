@@ -13,7 +13,7 @@
 #include "files.h"
 #include "graph.h"
 #include "libwitness_mode.h"
-#include "memory.h"
+#include "allocation.h"
 #include "output_files.h"
 #include "right_orders.h"
 #include "usage.h"

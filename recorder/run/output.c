@@ -7,7 +7,7 @@
 #include <unistd.h>
 
 #include "colour.h"
-#include "memory.h"
+#include "allocation.h"
 #include "output_files.h"
 #include "write_all.h"
 

@@ -9,7 +9,7 @@
 #include <unistd.h>
 
 #include "files.h"
-#include "memory.h"
+#include "allocation.h"
 #include "usage.h"
 
 /* The kernel follows no more of them. */

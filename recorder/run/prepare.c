@@ -14,7 +14,7 @@
 #include "files.h"
 #include "format.h"
 #include "learn.h"
-#include "memory.h"
+#include "allocation.h"
 #include "output_files.h"
 #include "right_orders.h"
 #include "steering_plan.h"

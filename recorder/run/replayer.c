@@ -7,7 +7,7 @@
 #include "brief_run.h"
 #include "document.h"
 #include "files.h"
-#include "memory.h"
+#include "allocation.h"
 #include "show_run.h"
 #include "usage.h"
 

@@ -14,7 +14,7 @@
 #include "held_question.h"
 #include "interrupts.h"
 #include "kept_settings.h"
-#include "memory.h"
+#include "allocation.h"
 #include "prepare.h"
 #include "show.h"
 #include "usage.h"

@@ -11,7 +11,7 @@
 #include <sys/syscall.h>
 #include <unistd.h>
 
-#include "memory.h"
+#include "allocation.h"
 #include "plan.h"
 
 enum { THREADS_MOST = 256, TIME_LIMIT = 3, WORDS = 4 };

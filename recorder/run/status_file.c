@@ -7,7 +7,7 @@
 #include <unistd.h>
 
 #include "format.h"
-#include "memory.h"
+#include "allocation.h"
 #include "source_names.h"
 
 enum { BYTES_LEAST = 65536 };

@@ -14,7 +14,7 @@
 
 #include "files.h"
 #include "interrupts.h"
-#include "memory.h"
+#include "allocation.h"
 #include "prepare.h"
 #include "show_run.h"
 #include "sleepers.h"

@@ -9,7 +9,7 @@
 #include "confirm.h"
 #include "files.h"
 #include "holdings.h"
-#include "memory.h"
+#include "allocation.h"
 #include "replay.h"
 #include "trace_lines.h"
 #include "write_all.h"

@@ -2,7 +2,7 @@
 
 #include "format.h"
 #include "line.h"
-#include "memory.h"
+#include "allocation.h"
 #include "source_names.h"
 
 #include <errno.h>

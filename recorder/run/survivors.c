@@ -7,7 +7,7 @@
 #include <string.h>
 #include <unistd.h>
 
-#include "memory.h"
+#include "allocation.h"
 
 enum { TOLD_MOST = 8 };
 

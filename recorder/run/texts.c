@@ -1,6 +1,6 @@
 #include "texts.h"
 
-#include "memory.h"
+#include "allocation.h"
 
 #include <stdarg.h>
 #include <stdio.h>

@@ -1,6 +1,6 @@
 #include "tool.h"
 
-#include "memory.h"
+#include "allocation.h"
 
 #include <errno.h>
 #include <fcntl.h>

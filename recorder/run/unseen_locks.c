@@ -9,8 +9,8 @@
 #include <unistd.h>
 
 #include "format.h"
-#include "memory.h"
-#include "search.h"
+#include "allocation.h"
+#include "text_search.h"
 
 enum { CHUNK_BYTES = 1 << 20, PYTHON = 2 };
 

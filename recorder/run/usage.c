@@ -5,7 +5,7 @@
 #include <stdlib.h>
 #include <string.h>
 
-#include "memory.h"
+#include "allocation.h"
 #include "witness.h"
 
 enum { REFUSED = 2, FAILED = 126 };

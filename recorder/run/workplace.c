@@ -8,7 +8,7 @@
 #include <sys/syscall.h>
 #include <unistd.h>
 
-#include "memory.h"
+#include "allocation.h"
 
 /* An entry of a folder, as the kernel tells it. */
 struct entry {

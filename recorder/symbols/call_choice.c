@@ -4,7 +4,7 @@
 #include "declarations.h"
 #include "lock_names.h"
 #include "map.h"
-#include "memory.h"
+#include "allocation.h"
 #include "source_text.h"
 #include "steps.h"
 

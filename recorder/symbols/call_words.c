@@ -1,7 +1,7 @@
 #include "call_words.h"
 
 #include "lock_expression.h"
-#include "memory.h"
+#include "allocation.h"
 #include "source_text.h"
 
 #include <stdlib.h>

@@ -6,7 +6,7 @@
 #include "declarations.h"
 #include "label.h"
 #include "map.h"
-#include "memory.h"
+#include "allocation.h"
 #include "sites.h"
 #include "texts.h"
 

@@ -4,7 +4,7 @@
 
 #include "demangle.h"
 #include "libdw.h"
-#include "memory.h"
+#include "allocation.h"
 
 /* A lambda that wasn't inlined has a name in the object alone. */
 static char *lambda_in_object(struct debug_info *info, const struct entry *function, uint64_t address)

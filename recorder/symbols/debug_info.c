@@ -1,7 +1,7 @@
 #include "debug_info.h"
 
 #include "libdw.h"
-#include "memory.h"
+#include "allocation.h"
 
 #include <stdlib.h>
 

@@ -2,7 +2,7 @@
 
 #include "debug_types.h"
 #include "libdw.h"
-#include "memory.h"
+#include "allocation.h"
 
 #include <fcntl.h>
 #include <stdlib.h>

@@ -2,7 +2,7 @@
 
 #include "columns.h"
 #include "format.h"
-#include "memory.h"
+#include "allocation.h"
 #include "progress.h"
 #include "source_names.h"
 #include "texts.h"

@@ -2,7 +2,7 @@
 
 #include "debug_info.h"
 #include "declarations.h"
-#include "memory.h"
+#include "allocation.h"
 #include "sites.h"
 #include "source_lines.h"
 #include "source_text.h"

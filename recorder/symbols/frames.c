@@ -1,6 +1,6 @@
 #include "frames.h"
 
-#include "memory.h"
+#include "allocation.h"
 #include "source_names.h"
 
 #include <stdlib.h>

@@ -1,6 +1,6 @@
 #include "function_names.h"
 
-#include "memory.h"
+#include "allocation.h"
 #include "source_names.h"
 #include "steps.h"
 #include "texts.h"

@@ -1,6 +1,6 @@
 #include "ignore.h"
 
-#include "memory.h"
+#include "allocation.h"
 #include "texts.h"
 #include "type_names.h"
 

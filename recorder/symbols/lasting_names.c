@@ -5,7 +5,7 @@
 #include "label.h"
 #include "lasting_variables.h"
 #include "lock_names.h"
-#include "memory.h"
+#include "allocation.h"
 #include "sites.h"
 #include "source_names.h"
 #include "steps.h"

@@ -1,6 +1,6 @@
 #include "lock_expression.h"
 
-#include "memory.h"
+#include "allocation.h"
 
 #include <ctype.h>
 #include <stdbool.h>

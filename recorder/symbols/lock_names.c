@@ -8,7 +8,7 @@
 #include "lock_expression.h"
 #include "map.h"
 #include "members.h"
-#include "memory.h"
+#include "allocation.h"
 #include "steps.h"
 #include "texts.h"
 

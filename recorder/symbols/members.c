@@ -1,10 +1,10 @@
 #include "members.h"
 
-#include "memory.h"
+#include "allocation.h"
 #include "scopes.h"
 #include "source_names.h"
 #include "source_text.h"
-#include "values.h"
+#include "expression_values.h"
 
 #include <ctype.h>
 #include <stdio.h>

@@ -1,6 +1,6 @@
 #include "notes.h"
 
-#include "memory.h"
+#include "allocation.h"
 #include "texts.h"
 #include "type_names.h"
 

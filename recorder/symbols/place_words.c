@@ -1,6 +1,6 @@
 #include "place_words.h"
 
-#include "memory.h"
+#include "allocation.h"
 
 static const char nowhere[] = "?:0";
 

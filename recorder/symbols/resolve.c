@@ -2,7 +2,7 @@
 
 #include "declarations.h"
 #include "ignore.h"
-#include "memory.h"
+#include "allocation.h"
 #include "right_orders.h"
 #include "sites.h"
 #include "symbols.h"

@@ -2,7 +2,7 @@
 
 #include "files.h"
 #include "format.h"
-#include "memory.h"
+#include "allocation.h"
 #include "texts.h"
 
 #include <dirent.h>

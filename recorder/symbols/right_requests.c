@@ -4,7 +4,7 @@
 #include "format.h"
 #include "lasting_variables.h"
 #include "map.h"
-#include "memory.h"
+#include "allocation.h"
 #include "sites.h"
 #include "steps.h"
 #include "texts.h"

@@ -1,6 +1,6 @@
 #include "sites.h"
 
-#include "memory.h"
+#include "allocation.h"
 #include "source_names.h"
 
 #include <inttypes.h>

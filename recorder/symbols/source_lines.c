@@ -1,7 +1,7 @@
 #include "source_lines.h"
 
 #include "map.h"
-#include "memory.h"
+#include "allocation.h"
 #include "place.h"
 #include "texts.h"
 

@@ -1,7 +1,7 @@
 #include "steps.h"
 
 #include "columns.h"
-#include "memory.h"
+#include "allocation.h"
 #include "sites.h"
 #include "source_names.h"
 #include "texts.h"

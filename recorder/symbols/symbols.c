@@ -6,7 +6,7 @@
 #include "debug_frames.h"
 #include "demangle.h"
 #include "map.h"
-#include "memory.h"
+#include "allocation.h"
 #include "source_names.h"
 #include "texts.h"
 

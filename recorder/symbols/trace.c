@@ -3,7 +3,7 @@
 #include "format.h"
 #include "frames.h"
 #include "map.h"
-#include "memory.h"
+#include "allocation.h"
 #include "place_words.h"
 #include "progress.h"
 #include "source_names.h"

@@ -3,7 +3,7 @@
 #include "label.h"
 #include "lock_names.h"
 #include "map.h"
-#include "memory.h"
+#include "allocation.h"
 #include "sites.h"
 #include "source_names.h"
 #include "steps.h"

@@ -1,7 +1,7 @@
 #include "variables.h"
 
 #include "debug_types.h"
-#include "memory.h"
+#include "allocation.h"
 #include "source_names.h"
 
 #include <inttypes.h>

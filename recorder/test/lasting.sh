@@ -1,11 +1,12 @@
 # Tests of what locks are called in each run, and of which of them are one type by their member: read by `run`, whose
 # functions it uses.
 
-# lasting_names WORDS..: the lasting names of the types of a run of these words, sorted.
+# lasting_names WORDS..: the lasting names of the types of a run of these words, sorted. Leaks aren't looked for: LeakSanitizer
+# may itself crash at the end of a process that has opened the C++ library, one time in sixty.
 lasting_names() {
     rm -rf records && mkdir records
     env RECORDER_DIRECTORY="$work/records" LD_PRELOAD="$(object_of all)" "$@" >/dev/null 2>&1
-    ./resolved types "$(echo records/*.0)" >types && cut -f 1 types | LC_ALL=C sort -u
+    ASAN_OPTIONS=exitcode=99:detect_leaks=0 ./resolved types "$(echo records/*.0)" >types && cut -f 1 types | LC_ALL=C sort -u
 }
 
 # told_names WORDS..: what the reports of a run of these words call types, and the locks that they are of, without numbers,
@@ -82,7 +83,7 @@ fi
 if wanted locked; then
     in_folders "${CC:-cc}" -std=c11 -D_GNU_SOURCE -g -O1 -fsanitize=address,undefined -fno-sanitize-recover=undefined -Wall -Wextra -Werror \
         -o locked "$here/locked.c" \
-        "$recorder/symbols/lock_expression.c" "$recorder/symbols/call_words.c" "$recorder/symbols/source_text.c" "$recorder/run/memory.c" &&
+        "$recorder/symbols/lock_expression.c" "$recorder/symbols/call_words.c" "$recorder/symbols/source_text.c" "$recorder/run/allocation.c" &&
         grep -v '^  ' "$here/locked.want" | ./locked | diff "$here/locked.want" -
     tell locked "the lock that a source line names" $?
 fi

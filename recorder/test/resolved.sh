@@ -4,13 +4,12 @@
 compile_resolved() {
     in_folders "${CC:-cc}" -std=c11 -D_GNU_SOURCE -g -O1 -fsanitize=address,undefined -fno-sanitize-recover=undefined \
         -Wall -Wextra -Werror -o resolved "$here/resolved.c" \
-        $(source_of memory columns texts map line source_names demangle symbols stream_file notes declarations sites frames types ignore trace single \
+        $(source_of allocation columns texts map line source_names demangle symbols stream_file notes declarations sites frames types ignore trace single \
             progress place object_file source_lines source_text lock_expression call_words call_choice lasting_variables type_names \
             function_names place_words fields right_orders right_requests \
-            libdw debug_frames debug_info debug_units debug_types scopes values members variables lock_names steps lasting_names resolve) -ldl
+            libdw debug_frames debug_info debug_units debug_types scopes expression_values members variables lock_names steps lasting_names resolve) -ldl
 }
-# LeakSanitizer may crash at the end of a process that has opened the C++ library, one time in fifty: leaks aren't looked for.
-export ASAN_OPTIONS=exitcode=99:detect_leaks=0 UBSAN_OPTIONS=exitcode=99
+export ASAN_OPTIONS=exitcode=99 UBSAN_OPTIONS=exitcode=99
 
 # record_stream FRAMES COMMAND..: leaves the stream in `stream`.
 record_stream() {
@@ -27,7 +26,7 @@ if wanted names; then
         "$recorder/symbols/source_names.c" && ./names | diff "$here/names.want" -
     tell names "functions as their sources name them, and files of libraries" $?
     in_folders "${CC:-cc}" -std=c11 -D_GNU_SOURCE -Wall -Wextra -Werror -o placewords "$here/placewords.c" \
-        "$recorder/symbols/place_words.c" "$recorder/run/memory.c" && ./placewords | diff "$here/placewords.want" -
+        "$recorder/symbols/place_words.c" "$recorder/run/allocation.c" && ./placewords | diff "$here/placewords.want" -
     tell names "places and locks as they are told" $?
 fi
 

@@ -19,7 +19,7 @@
 
 #include "findings.h"
 #include "json.h"
-#include "memory.h"
+#include "allocation.h"
 #include "pictures.h"
 
 enum { FIELDS = 40 };

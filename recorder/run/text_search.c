@@ -1,4 +1,4 @@
-#include "search.h"
+#include "text_search.h"
 
 #include <string.h>
 

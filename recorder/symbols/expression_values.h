@@ -2,8 +2,8 @@
  * What an expression of the source is, by the types that debug information has: objects, their members, and what pointers and
  * references lead to.
  */
-#ifndef RECORD_VALUES_H
-#define RECORD_VALUES_H
+#ifndef RECORD_EXPRESSION_VALUES_H
+#define RECORD_EXPRESSION_VALUES_H
 
 #include <stdbool.h>
 

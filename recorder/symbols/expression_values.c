@@ -1,4 +1,4 @@
-#include "values.h"
+#include "expression_values.h"
 
 #include "scopes.h"
 

@@ -1,8 +1,8 @@
 /*
  * Memory that is there, or `record` ends: with the status 126 and a line that says so. The recording is kept then.
  */
-#ifndef RECORD_MEMORY_H
-#define RECORD_MEMORY_H
+#ifndef RECORD_ALLOCATION_H
+#define RECORD_ALLOCATION_H
 
 #include <stddef.h>
 

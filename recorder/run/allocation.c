@@ -1,4 +1,4 @@
-#include "memory.h"
+#include "allocation.h"
 
 #include <stdarg.h>
 #include <stdio.h>

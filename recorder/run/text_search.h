@@ -2,8 +2,8 @@
  * Looks for several texts at once. Where the last two bytes of a place that the shortest of them would have stand in none
  * of them, or only further on, so much is passed over.
  */
-#ifndef RECORD_SEARCH_H
-#define RECORD_SEARCH_H
+#ifndef RECORD_TEXT_SEARCH_H
+#define RECORD_TEXT_SEARCH_H
 
 #include <stddef.h>
 #include <stdint.h>
