@@ -135,11 +135,7 @@ pub(crate) fn put_line(
     put_newer(to, shown, source)
 }
 
-fn put_newer(
-    to: &mut Markup,
-    shown: &Shown<'_, '_>,
-    source: &Value<'_>,
-) -> Result<(), AllocError> {
+fn put_newer(to: &mut Markup, shown: &Shown<'_, '_>, source: &Value<'_>) -> Result<(), AllocError> {
     if shown.is_built && truth(source, "newer") {
         return to.tag(
             "<p class='nosource'>The file is newer than the program: its lines may have moved.</p>\n",
