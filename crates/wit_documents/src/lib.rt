@@ -14,8 +14,6 @@ pub mod reading;
 mod results;
 mod sarif;
 mod stacks;
-#[cfg(test)]
-mod tests;
 mod uris;
 
 pub use document::{DocumentError, report_of, write_sarif};

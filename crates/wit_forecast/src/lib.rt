@@ -17,7 +17,5 @@ mod requests;
 mod schedules;
 mod searching;
 mod shares;
-#[cfg(test)]
-mod tests;
 
 pub use forecasting::forecast;

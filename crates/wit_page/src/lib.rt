@@ -10,8 +10,6 @@ mod markup;
 mod orders;
 mod page;
 mod schedule;
-#[cfg(test)]
-mod tests;
 mod threads;
 mod waits;
 mod wheres;

@@ -5,15 +5,21 @@
 #![tactic(auto)]
 
 #[cfg(test)]
+mod alarms;
+#[cfg(test)]
 mod all_held;
 #[cfg(test)]
 mod chains;
+#[cfg(test)]
+mod documents;
 #[cfg(test)]
 mod ends;
 #[cfg(test)]
 mod fakes;
 #[cfg(test)]
 mod flushes;
+#[cfg(test)]
+mod forecasts;
 #[cfg(test)]
 mod lines;
 #[cfg(test)]

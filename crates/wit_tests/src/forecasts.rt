@@ -1,7 +1,7 @@
 //! Forecasts of small traces.
 
-use crate::forecast;
 use std::alloc::AllocError;
+use wit_forecast::forecast;
 
 const IN_TURN: &str = r#"witness-trace 2 seats 2 types 8 locks 16 chunks 4
 init 1 mtx - "a" "A"

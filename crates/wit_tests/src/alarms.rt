@@ -1,11 +1,11 @@
 //! Two threads that take two locks in opposite orders, and each thing that keeps them apart.
 
-use crate::{
+use std::alloc::Global;
+use std::test::Fail;
+use wit_alarms::{
     Cause, Fact, Grade, Had, Join, Life, Lives, Manner, Reason, Reasons, Single, ThreadNo,
     circle_of, grade_of,
 };
-use std::alloc::Global;
-use std::test::Fail;
 use wit_model::Mode;
 
 fn had(lock: u32) -> Had {
