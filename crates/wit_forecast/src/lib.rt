@@ -17,5 +17,6 @@ mod requests;
 mod schedules;
 mod searching;
 mod shares;
+mod ways;
 
 pub use forecasting::forecast;

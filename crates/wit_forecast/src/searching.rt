@@ -118,10 +118,15 @@ impl Search<'_> {
         let mut tried: u32 = 0;
         for wanted in [Hindrance::Nothing, Hindrance::Alone] {
             for circle in circles {
-                if circle.hindrance == wanted && tried < MOST_TRIED && !is_schedule_in(&best) {
-                    tried = tried.saturating_add(1);
-                    best = better(best, self.schedule_of(alloc, &circle.members)?);
+                if circle.hindrance != wanted || is_schedule_in(&best) {
+                    continue;
                 }
+                tried = tried.saturating_add(1);
+                let found = match tried <= MOST_TRIED {
+                    true => self.schedule_of(alloc, &circle.members)?,
+                    false => Outcome::Undecided,
+                };
+                best = better(best, found);
             }
         }
         for circle in circles {
@@ -197,6 +202,9 @@ impl Search<'_> {
         let errands = self.errands_of(alloc, members, false)?;
         let turns = match meet(alloc, self.source.deeds, &errands)? {
             Meeting::Meets(turns) => turns,
+            Meeting::Barred(_) if members.iter().any(|request| request.has_others) => {
+                return Ok(Outcome::Undecided);
+            }
             Meeting::Barred(place) => return Ok(Outcome::Barred(place)),
             Meeting::Undecided => return Ok(Outcome::Undecided),
         };
