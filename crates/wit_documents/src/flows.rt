@@ -1,11 +1,12 @@
 //! How threads came to the places of a report, as SARIF has it.
 
+use crate::hangs::put_hang;
 use crate::lines::{Line, LineKind};
 use crate::locations::{Said, Sources, put_location, put_message};
 use crate::members::{begin, close, close_list, open, open_list, put_count, put_item, put_text};
 use crate::places::{is_code, is_place, place_name};
 use crate::plain::put_plain;
-use crate::reading::{digits, item, list, member, text, words};
+use crate::reading::{digits, item, member, text, words};
 use json::{Pretty, Value};
 use std::alloc::{AllocError, Global};
 
@@ -115,7 +116,8 @@ fn begin_thread(out: &mut Pretty, alloc: Global, line: &Line<'_, '_>) -> Result<
     open_list(out, "locations")
 }
 
-fn end_thread(out: &mut Pretty) -> Result<(), AllocError> {
+/// The end of a thread's flow.
+pub(crate) fn end_thread(out: &mut Pretty) -> Result<(), AllocError> {
     close_list(out)?;
     close(out)
 }
@@ -214,14 +216,17 @@ fn put_caller(
     put_step(out, alloc, sources, frame, said, step)
 }
 
-// How a step stands in its flow.
+/// How a step stands in its flow.
 #[derive(Clone, Copy, Drop)]
-struct Step {
-    is_lock: bool,
-    depth: usize,
+pub(crate) struct Step {
+    /// Whether a lock is asked for there.
+    pub(crate) is_lock: bool,
+    /// How many callers stand above it.
+    pub(crate) depth: usize,
 }
 
-fn put_step(
+/// A step: a place, and what is said of it.
+pub(crate) fn put_step(
     out: &mut Pretty,
     alloc: Global,
     sources: &Sources<'_, '_>,
@@ -249,102 +254,6 @@ fn put_step(
         },
     )?;
     close(out)
-}
-
-// How it hung in a steered run.
-fn put_hang(
-    out: &mut Pretty,
-    alloc: Global,
-    sources: &Sources<'_, '_>,
-    confirmed: &Value<'_>,
-) -> Result<(), AllocError> {
-    if digits(confirmed, "run").is_none() {
-        return Ok(());
-    }
-    begin(out)?;
-    put_message(out, alloc, "message", words(confirmed, "text"))?;
-    open_list(out, "threadFlows")?;
-    for thread in list(confirmed, "waits") {
-        put_hung(out, alloc, sources, thread)?;
-    }
-    close_list(out)?;
-    close(out)
-}
-
-// What a thread of a hang did: it took the one lock, and waits for the other.
-fn put_hung(
-    out: &mut Pretty,
-    alloc: Global,
-    sources: &Sources<'_, '_>,
-    thread: &Value<'_>,
-) -> Result<(), AllocError> {
-    let mut label = String::from_str(alloc, "thread ")?;
-    if let Some(number) = digits(thread, "thread") {
-        label.push_str(number)?;
-    }
-    begin(out)?;
-    put_message(out, alloc, "message", &label)?;
-    open_list(out, "locations")?;
-    if text(thread, "took").is_some() {
-        put_deed(out, alloc, sources, thread, Deed::TAKEN)?;
-    }
-    put_deed(out, alloc, sources, thread, Deed::WAITED_FOR)?;
-    end_thread(out)
-}
-
-// Under which names a deed of a thread stands, and what is said of it.
-#[derive(Clone, Copy, Drop)]
-struct Deed {
-    lock: &'static str,
-    place: &'static str,
-    words: &'static str,
-}
-
-impl Deed {
-    const TAKEN: Deed = Deed {
-        lock: "took",
-        place: "took_place",
-        words: "\" is taken",
-    };
-
-    const WAITED_FOR: Deed = Deed {
-        lock: "waits_for",
-        place: "waits_place",
-        words: "\" is waited for",
-    };
-}
-
-fn put_deed(
-    out: &mut Pretty,
-    alloc: Global,
-    sources: &Sources<'_, '_>,
-    thread: &Value<'_>,
-    deed: Deed,
-) -> Result<(), AllocError> {
-    let Some(place) = member(thread, deed.place) else {
-        return Ok(());
-    };
-    if !is_place(place) {
-        return Ok(());
-    }
-    let mut said = String::from_str(alloc, "\"")?;
-    said.push_str(words(thread, deed.lock))?;
-    said.push_str(deed.words)?;
-    let said = Said {
-        function: None,
-        message: Some(said.as_str()),
-    };
-    put_step(
-        out,
-        alloc,
-        sources,
-        place,
-        said,
-        Step {
-            is_lock: true,
-            depth: 0,
-        },
-    )
 }
 
 /// `at [FILE:LINE](NUMBER)`, or `in [FUNCTION (OBJECT)](NUMBER)` where the line isn't known: it is added.

@@ -4,6 +4,7 @@
 
 mod document;
 mod flows;
+mod hangs;
 mod kinds;
 mod lines;
 mod locations;

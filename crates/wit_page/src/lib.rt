@@ -5,11 +5,13 @@
 mod cards;
 mod escapes;
 mod list;
+mod locks;
 mod looks;
 mod markup;
 mod orders;
 mod page;
 mod schedule;
+mod sections;
 mod threads;
 mod waits;
 mod wheres;
