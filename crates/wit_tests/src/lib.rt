@@ -5,11 +5,15 @@
 #![tactic(auto)]
 
 #[cfg(test)]
+mod adoptions;
+#[cfg(test)]
 mod alarms;
 #[cfg(test)]
 mod all_held;
 #[cfg(test)]
 mod chains;
+#[cfg(test)]
+mod chunks;
 #[cfg(test)]
 mod documents;
 #[cfg(test)]

@@ -19,6 +19,8 @@ mod exhausting;
 #[cfg(test)]
 mod fakes;
 #[cfg(test)]
+mod gates;
+#[cfg(test)]
 mod guarding;
 #[cfg(test)]
 mod observing;
