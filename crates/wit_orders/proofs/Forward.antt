@@ -34,7 +34,7 @@ position_or_len-append p (x ∷ xs) ys within = by (p x) within (position_or_len
     by false within rest = ap (λ n. 1 + n) (rest (omega (arith, within)))
 
 -- a place that is found is the first that passes
-first_place : {X : Type 0} (p : X → Bool) (xs : List X) (i : ℕ) → position p xs ≡ Some i
+pub first_place : {X : Type 0} (p : X → Bool) (xs : List X) (i : ℕ) → position p xs ≡ Some i
     → (position_or_len p xs ≡ i) × (i < length xs)
 first_place p xs i e = by (position_or_len p xs) (nat_lt (position_or_len p xs) (length xs)) refl e
   where
@@ -45,12 +45,12 @@ first_place p xs i e = by (position_or_len p xs) (nat_lt (position_or_len p xs) 
         (same, subst (λ k. k < length xs) same (ltb-true n (length xs) within))
     by n false within at = absurd (true≢false (sym (ap is_some at)))
 
-found_place : {X : Type 0} (p : X → Bool) (xs : List X) (i : ℕ) → position_or_len p xs ≡ i
+pub found_place : {X : Type 0} (p : X → Bool) (xs : List X) (i : ℕ) → position_or_len p xs ≡ i
     → i < length xs → position p xs ≡ Some i
 found_place p xs i is within = grind (arith, is, within)
 
 -- it stays where more types follow
-place-stays : (types more : List (List ℕ)) (text : List ℕ) (i : ℕ) → place_in types text ≡ Some i
+pub place-stays : (types more : List (List ℕ)) (text : List ℕ) (i : ℕ) → place_in types text ≡ Some i
     → place_in (types ++ more) text ≡ Some i
 place-stays types more text i at =
     let first = first_place (bytes_eq text) types i at in

@@ -6,10 +6,10 @@ mod answers;
 mod checking;
 pub mod laws;
 mod reading;
-mod sequence;
+pub mod sequence;
 mod status;
 
 pub use answers::{Answer, Flaw};
 pub use checking::check_sequence;
-pub use reading::OrderLine;
+pub use reading::{OrderLine, order_line};
 pub use status::{ACYCLIC, BACKWARD, BAD_LINE, FAILED, status_of};

@@ -1,0 +1,4 @@
+pub mod Clean
+pub mod Following
+pub mod Places
+pub mod Runs

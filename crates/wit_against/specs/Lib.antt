@@ -1,0 +1,6 @@
+pub mod Answers
+pub mod Existing
+pub mod Judging
+pub mod Known
+pub mod Laws
+pub mod Outputs
