@@ -8,7 +8,7 @@ use Rattle.wit_trace.specs.declared.view.View.TheVariants.{Reports, Graph, Locks
 use Rattle.wit_trace.specs.declared.view.View.TheVariants.{Clean}
 use Rattle.wit_command.specs.declared.command.Command.{Command}
 use Rattle.wit_command.specs.declared.command.Command.TheVariants.{Show, Migrate, Grade, Demo}
-use Rattle.wit_command.specs.declared.command.Command.TheVariants.{Findings, Forecast, Import, Write}
+use Rattle.wit_command.specs.declared.command.Command.TheVariants.{Findings, Forecast, Import, Judge, Write}
 use Rattle.wit_command.specs.declared.command.Form.TheVariants.{Html, Sarif}
 use Rattle.wit_command.specs.declared.command.Choice.{Choice}
 use Rattle.wit_command.specs.declared.command.Choice.TheVariants.{Interrupts, Readers}
@@ -91,15 +91,25 @@ abbrev pub import_named : List ℕ → List ℕ → List (List ℕ) → Option C
 import_named word source options =
     if bytes_eq word (codes "import") then option_map Import (source_named source options) else None
 
+-- what is to be done with orders, which has no options
+abbrev pub task_named : List ℕ → List (List ℕ) → Option Command
+task_named task [] = if bytes_eq task (codes "judge") then Some Judge else None
+task_named task (option ∷ options) = None
+
+-- what two words and options ask for: something of orders, or an import
+abbrev pub named_by_two : List ℕ → List ℕ → List (List ℕ) → Option Command
+named_by_two word next options =
+    if bytes_eq word (codes "orders") then task_named next options
+    else import_named word next options
+
 -- what one word asks for that stands alone
 abbrev pub asked_alone : List (List ℕ) → Option Command
 asked_alone (word ∷ []) = command_named word
 asked_alone _ = None
 
--- what the words behind the program's name ask for: one word that names it, or an import, its source
--- and its options
+-- what the words behind the program's name ask for: one word that names it, or two and options
 abbrev pub asked : List (List ℕ) → Option Command
-asked (word ∷ source ∷ options) = import_named word source options
+asked (word ∷ next ∷ options) = named_by_two word next options
 asked words = asked_alone words
 
 -- the word behind the program's name, where it is the only one

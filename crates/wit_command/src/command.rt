@@ -55,6 +55,8 @@ pub enum Command {
     Findings,
     /// The JSON report on standard input, in such a form.
     Write(Form),
+    /// What is against others among the orders on standard input.
+    Judge,
     /// The lines on standard input, which such a source wrote, as a trace.
     Import(Source),
     /// The demonstration.

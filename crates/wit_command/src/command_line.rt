@@ -5,6 +5,7 @@ ghost use Rattle.std.specs.Prelude.{map, option_map};
 ghost use Rattle.clap.specs.Words.{first_of, kind_of, matches_of, takes};
 ghost use Rattle.wit_command.specs.CommandLine.{asked, asked_alone, bytes_of, command_line};
 ghost use Rattle.wit_command.specs.CommandLine.{alone, choice_named, command_named, encoding_by};
+ghost use Rattle.wit_command.specs.CommandLine.{named_by_two, task_named};
 ghost use Rattle.wit_command.specs.CommandLine.{ftrace_by, import_named, with_choice};
 ghost use Rattle.wit_command.specs.CommandLine.{only_word, option_named, source_named, with_option};
 
@@ -17,8 +18,9 @@ use std::str;
 use wit_trace::View;
 
 /// What these words ask for, which stand behind the program's name: `None` where they aren't
-/// exactly one word that says it, or `import` and a source, behind which the options of an import of
-/// ftrace may stand. No other option does, nor does a word for help.
+/// exactly one word that says it, or `orders` and what is to be done with them, or `import` and a source,
+/// behind which the options of an import of ftrace may stand. No other option does, nor does a word for
+/// help.
 ///
 /// # Errors
 /// Want of memory.
@@ -26,10 +28,28 @@ pub fn asked_command(alloc: Global, words: &[Vec<u8>]) -> Result<Option<Command>
     ensures { IfOk result (λ command. command ≡ asked (bytes_of words.now)) }
 {
     match words {
-        [word, source, options @ ..] => {
-            Ok(named_import(word.as_slice(), source.as_slice(), options))
-        }
+        [word, next, options @ ..] => Ok(named_by_two(word.as_slice(), next.as_slice(), options)),
         _ => asked_alone(alloc, words),
+    }
+}
+
+fn named_by_two(word: &[u8], next: &[u8], options: &[Vec<u8>]) -> Option<Command>
+    ensures { result ≡ named_by_two word.now next.now (bytes_of options.now) }
+{
+    if word == b"orders".as_slice() {
+        named_task(next, options)
+    } else {
+        named_import(word, next, options)
+    }
+}
+
+// What is to be done with orders, which has no options.
+fn named_task(task: &[u8], options: &[Vec<u8>]) -> Option<Command>
+    ensures { result ≡ task_named task.now (bytes_of options.now) }
+{
+    match options {
+        [] if task == b"judge".as_slice() => Some(Command::Judge),
+        _ => None,
     }
 }
 

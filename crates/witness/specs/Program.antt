@@ -7,6 +7,8 @@ use Rattle.wit_model.specs.Trace.Moving.{Unmoved}
 use Rattle.wit_demo.specs.Demonstration.{IsEnded, IsTold}
 use Rattle.wit_migrate.specs.Again.{WritesTheSame}
 use Rattle.wit_migrate.specs.Migrates.{Migrates, MigratesFrom}
+use Rattle.wit_against.specs.Known.{nothing_known}
+use Rattle.wit_against.specs.Outputs.{JudgesFrom}
 use Rattle.wit_grades.specs.Outputs.{Grades, GradesFrom, nothing_told}
 use Rattle.wit_findings.specs.Findings.{FindsFrom}
 use Rattle.wit_findings.specs.Told as known
@@ -103,6 +105,12 @@ pub record TellsGrades (read written_old written_new : Option (List ℕ)) : Type
 pub record TellsFindings (read written_old written_new : Option (List ℕ)) : Type 0 where
   pub left : Option (List ℕ)
   pub told : WritesLines FindsFrom known.nothing_told read left written_old written_new
+
+-- what is told of the whole lines of orders that were taken was written, no less, whatever is left of
+-- the input
+pub record TellsJudged (read written_old written_new : Option (List ℕ)) : Type 0 where
+  pub left : Option (List ℕ)
+  pub told : WritesLines JudgesFrom nothing_known read left written_old written_new
 
 -- what is written of an input: the one trace of a script's lines or of a tracer's
 abbrev pub ImportsBy : Source → List ℕ → List ℕ → Summary → Type 0

@@ -16,6 +16,7 @@ pub const USAGE: &str = "usage: witness replay|graph|locks|circle|state|clean < 
        witness migrate|forecast < TRACE
        witness grade < FACTS
        witness findings < RECORDING
+       witness orders judge < ORDERS
        witness html|sarif < REPORT
        witness import plain|lttng < LINES
        witness import ftrace [--no-irq] [--no-readers] < LINES
@@ -34,16 +35,18 @@ With grade it reads facts in place of a trace: which lock a thread asked for whi
 for it, it writes whether threads can wait for one another so, and if not, what keeps them from it.
 With findings it reads what the recorder wrote of a program: it writes each report, each order, and what stands against them,
 a JSON object a line, as soon as it is known.
+With orders judge it reads orders of lock types, a line each. It writes each that closes a circle with those before it, below
+it those that lead back, set in and as few as can be, and last how many there are.
 With html or sarif it reads the JSON report of record --json, and writes a page for people or a log of SARIF.
 With import it reads lines that tell how threads acquire and release locks, and writes a trace: of a script (plain), of the
 kernel's ftrace, or of LTTng's pthread wrapper. With --no-irq an interrupt stands for no lock, with --no-readers recursive
 readers are told as others are. What is left out of the trace is counted on standard error.
 With demo it reads nothing: threads take two locks in one order, and then one takes them in the other, which is reported.
-Status: 0 nothing was reported, 1 something was reported (replay, state, findings, demo), the trace isn't clean (clean), there is a circle
+Status: 0 nothing was reported, 1 something was reported (replay, state, findings, orders, demo), the trace isn't clean (clean), there is a circle
 (circle) or a schedule (forecast), 2 bad usage, 3 a bad line (the output says which and why) or no JSON report, 4 no memory, or
 reading or writing failed.
 The format of a trace: docs/man/witness-trace.5; of facts and grades: docs/man/witness-grade.5; of recordings and findings:
-docs/man/witness-findings.5; of lines: docs/man/witness-import.1
+docs/man/witness-findings.5; of lines: docs/man/witness-import.1; of orders: docs/man/orders.1
 ";
 
 /// Says how the program is used, and gives the status of bad usage. The status alone tells it where

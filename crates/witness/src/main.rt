@@ -5,6 +5,7 @@
 mod complaints;
 mod demonstration;
 mod documents;
+mod orders;
 mod program;
 mod progress;
 mod words;

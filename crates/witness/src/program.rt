@@ -4,6 +4,7 @@ ghost use Rattle.std.specs.Prelude.{◌≡◌, ◌≢◌, ◌⊎◌, Ok, Err, If
 ghost use Rattle.std.specs.Io.KnownBytes.{Keeps};
 ghost use Rattle.wit_forecast.specs.Forecasts.{Forecasts};
 ghost use Rattle.wit_findings.specs.Findings.{Finds};
+ghost use Rattle.wit_against.specs.Outputs.{Judges};
 ghost use Rattle.wit_grades.specs.Outputs.{Grades};
 ghost use Rattle.wit_migrate.specs.Again.{WritesTheSame};
 ghost use Rattle.wit_migrate.specs.Migrates.{Migrates};
@@ -14,7 +15,7 @@ ghost use Rattle.wit_command.specs.CommandLine.{asked, bytes_of};
 ghost use Rattle.wit_stream.specs.declared.summary.ReplayError.TheVariants as ReplayError;
 ghost use Rattle.wit_stream.specs.declared.summary.ReplayError.TheVariants.{Memory};
 ghost use Rattle.wit_command.specs.declared.command.Command.TheVariants.{Demo, Findings, Forecast, Grade};
-ghost use Rattle.wit_command.specs.declared.command.Command.TheVariants.{Import};
+ghost use Rattle.wit_command.specs.declared.command.Command.TheVariants.{Import, Judge};
 ghost use Rattle.wit_command.specs.declared.command.Command.TheVariants.{Migrate, Show};
 ghost use Rattle.wit_command.specs.declared.command.Command.TheVariants.{Write as Document};
 ghost use Rattle.wit_command.specs.declared.command.Form.{Form};
@@ -25,10 +26,12 @@ ghost use Rattle.witness.specs.Program.{IsCutShort, IsGradedAndExits, IsGradingC
 ghost use Rattle.witness.specs.Program.{ImportsBy, IsImportedAndExits, IsImportCut, IsMigratedAndExits};
 ghost use Rattle.witness.specs.Program.{IsMigrationCut, IsOutputCut, IsShownAndExits};
 ghost use Rattle.witness.specs.Program.{IsWrittenAndExits, IsWrittenOrRefused, TellsGrades};
-ghost use Rattle.witness.specs.Program.{TellsFindings, TellsImported, TellsLines, TellsMovedLines};
+ghost use Rattle.witness.specs.Program.{TellsFindings, TellsImported, TellsJudged, TellsLines};
+ghost use Rattle.witness.specs.Program.{TellsMovedLines};
 
 use crate::complaints::{refuse, tell_counts};
 use crate::documents::write_document;
+use crate::orders::judge;
 use std::alloc::Global;
 use std::io::{BufRead, BufReader, Read, Write};
 use wit_command::{Command, Source, asked_command};
@@ -43,7 +46,7 @@ use wit_trace::{View, replay, status_of};
 
 // So much of the input is read at once. A migration looks beyond a line for the end of the next one
 // only where less than a line of the greatest length is left of it.
-const READ_AHEAD: usize = 65_536;
+pub const READ_AHEAD: usize = 65_536;
 
 /// What is left to do.
 #[derive(Clone, Copy, Debug, PartialEq, Eq)]
@@ -55,16 +58,16 @@ pub enum Ended {
 }
 
 /// Runs the program on the words behind its name, up to its exit status: where they ask for a view
-/// of the input, its migration, its forecast, its grades, its findings, a document or its import, that of the
-/// replay, the migration, the forecast, the grading, the findings, the document or the import; where they ask
-/// for nothing, 2. The demonstration is left to the caller.
+/// of the input, its migration, its forecast, its grades, its findings, what is against others among its
+/// orders, a document or its import, that of the replay, the migration, the forecast, the grading, the findings,
+/// the judging, the document or the import; where they ask for nothing, 2. The demonstration is left to the caller.
 ///
 /// Only the input is read through a buffer: what is written is in the output when this returns.
 /// What goes to `complaints` is how the program is used, at status 2, and nothing else. What an import
 /// counts goes to `notes`, and that the input is no report.
 ///
 /// # Errors
-/// Those of `replay`, `migrate`, `forecast`, `grade_facts`, `findings`, `write_document`, `import` and
+/// Those of `replay`, `migrate`, `forecast`, `grade_facts`, `findings`, `judge`, `write_document`, `import` and
 /// `import_traced`; and `Memory` where memory runs out before the first line is read. What was written is then a
 /// beginning of the output; where the reader failed it is the text of every whole line that was taken.
 pub fn run<R: Read + Drop, W: Write, N: Write, E: Write>(
@@ -125,6 +128,15 @@ pub fn run<R: Read + Drop, W: Write, N: Write, E: Write>(
     ensures findings_told { asked (bytes_of words.now) ≡ Some Findings
         → result ≡ Err ReplayError.Read
         → TellsFindings (R.remaining input) (W.contents output.old) (W.contents output.new) }
+    ensures judged { asked (bytes_of words.now) ≡ Some Judge
+        → IfOk result (IsWrittenAndExits Judges Reports (R.remaining input)
+        (W.contents output.old) (W.contents output.new)) }
+    ensures judging_cut { asked (bytes_of words.now) ≡ Some Judge
+        → OnErr result (IsOutputCut Judges (R.remaining input) (W.contents output.old)
+        (W.contents output.new)) }
+    ensures judging_told { asked (bytes_of words.now) ≡ Some Judge
+        → result ≡ Err ReplayError.Read
+        → TellsJudged (R.remaining input) (W.contents output.old) (W.contents output.new) }
     ensures document { (form : Form) → asked (bytes_of words.now) ≡ Some (Document form)
         → IfOk result (IsWrittenOrRefused (R.remaining input) (W.contents output.old)
         (W.contents output.new)) }
@@ -146,6 +158,7 @@ pub fn run<R: Read + Drop, W: Write, N: Write, E: Write>(
         Ok(Some(Command::Forecast)) => forecast_trace(alloc, input, output),
         Ok(Some(Command::Grade)) => grade(alloc, input, output),
         Ok(Some(Command::Findings)) => find(alloc, input, output),
+        Ok(Some(Command::Judge)) => judge(alloc, input, output),
         Ok(Some(Command::Write(form))) => write_document(alloc, form, input, output, notes),
         Ok(Some(Command::Import(source))) => import_lines(alloc, source, input, output, notes),
         Ok(Some(Command::Demo)) => Ok(Ended::ShowsThreads),
