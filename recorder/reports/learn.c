@@ -191,9 +191,6 @@ static void tell_summary(struct ending_run *ending)
     if (ending->elsewhere > 0)
         say(&run->output, "%s: %zu of its own orders are against others of its own: `orders judge %s` tells which",
             ending->name, ending->elsewhere, ending->name);
-    if (!ending->judgement.failed && !ending->judgement.is_shown)
-        say(&run->output, "%s: that there is no further circle isn't shown: %s", ending->name,
-            ending->judgement.unshown);
     say(&run->output, "%s: %zu new order%s%s, %zu against others", ending->name, ending->added,
         ending->added == 1 ? "" : "s", is_learnt ? " learnt" : "", ending->against);
 }
@@ -208,11 +205,10 @@ static void tell_failure(struct ending_run *ending, const char *why)
 static void judge_and_tell(struct ending_run *ending)
 {
     struct run *run = ending->run;
-    const struct judges judges = {run->settings.witness, run->settings.acyclic};
     if (run->learning)
         join(ending, &run->learning->met);
     bless(ending);
-    learnt_judge(&ending->learnt, &judges, &ending->judgement);
+    learnt_judge(&ending->learnt, run->settings.witness, &ending->judgement);
     if (ending->judgement.failed) {
         tell_failure(ending, ending->judgement.failed);
         return;

@@ -148,17 +148,13 @@ static char *verdict_of(const struct learnt *learnt, const struct judgement *jud
 {
     const char *peace = count_blessed(learnt) > 0 ? " and those in peace" : "";
     const char *alone = judgement->against == 1 ? "it" : "these";
-    if (judgement->against > 0 && judgement->is_shown)
+    if (judgement->against > 0)
         return say_text("%zu order%s against others, and no circle without %s%s", judgement->against,
             judgement->against == 1 ? "" : "s", alone, peace);
-    if (judgement->against > 0)
-        return say_text("%zu order%s against others", judgement->against, judgement->against == 1 ? "" : "s");
-    if (judgement->is_shown && *peace)
+    if (*peace)
         return copy("no circle without those in peace");
-    if (judgement->is_shown)
-        return copy("clean: threads that ask for nothing but these orders never wait for one another in a circle "
-                    "(docs/PROOFS.md)");
-    return copy("no circle was found, and nothing shows that there is none");
+    return copy("clean: threads that ask for nothing but these orders never wait for one another in a circle "
+                "(docs/PROOFS.md)");
 }
 
 /* The last line, without its head. */
@@ -184,11 +180,6 @@ static int tell(const struct learnt *learnt, const struct judgement *judgement, 
     size_t blessed = count_blessed(learnt);
     if (blessed > 0)
         printf("orders: %zu of them %s left in peace\n", blessed, blessed == 1 ? "is" : "are");
-    if (!judgement->is_shown) {
-        fprintf(stderr, "orders: that there is no%s circle isn't shown: %s\n", status ? " further" : "",
-            judgement->unshown);
-        status = status ? status : FAILED;
-    }
     printf("orders: %s\n", summary);
     return status;
 }
@@ -198,14 +189,14 @@ static int judge(const char *here, char **words)
     struct learnt learnt = {0};
     struct wanted wanted;
     struct judgement judgement;
-    struct judges judges = {judge_of(here, "WITNESS", "witness"), judge_of(here, "ACYCLIC", "acyclic")};
+    const char *witness = judge_of(here, "WITNESS", "witness");
     char **files = read_options(&wanted, words, true);
-    wanted.drawing.witness = judges.witness;
+    wanted.drawing.witness = witness;
     drawing_check(&wanted.drawing);
     read_files(&learnt, files);
     if (wanted.ignore)
         bless(&learnt, wanted.ignore);
-    learnt_judge(&learnt, &judges, &judgement);
+    learnt_judge(&learnt, witness, &judgement);
     if (judgement.failed)
         fail("%s: nothing is judged", judgement.failed);
     char *summary = summary_of(&learnt, &judgement);

@@ -4,32 +4,18 @@
 #include <string.h>
 #include <unistd.h>
 
-#include "certificate.h"
-#include "files.h"
 #include "allocation.h"
-#include "order_circles.h"
-#include "order_sequence.h"
-#include "order_trace.h"
-#include "trace_lines.h"
+#include "files.h"
+#include "order_reports.h"
+#include "verdict.h"
 
-enum { REPLAYED_MOST = 1, NOT_RUN = 126, NOT_FOUND = 127 };
+enum { FOUND = 1, NOT_RUN = 126, NOT_FOUND = 127, FEED_BYTES = 1 << 16, INSET = 4 };
 
-/* What is being judged. */
-struct judging {
-    struct learnt *learnt;
-    struct made made;
-    struct knots knots;
-    size_t *tied, ties; /* the orders on circles, those of a knot together, each knot's in the sequence of judging */
-};
-
-static int by_knot(const void *one, const void *other, void *with)
+static int by_trust(const void *one, const void *other, void *with)
 {
-    const struct judging *judging = with;
+    const struct learnt *learnt = with;
     size_t first = *(const size_t *)one, second = *(const size_t *)other;
-    const struct learnt_order *left = &judging->learnt->order[first], *right = &judging->learnt->order[second];
-    size_t left_knot = judging->knots.of[left->from], right_knot = judging->knots.of[right->from];
-    if (left_knot != right_knot)
-        return left_knot < right_knot ? -1 : 1;
+    const struct learnt_order *left = &learnt->order[first], *right = &learnt->order[second];
     if (left->is_new != right->is_new)
         return left->is_new ? 1 : -1;
     if (left->runs != right->runs)
@@ -38,129 +24,109 @@ static int by_knot(const void *one, const void *other, void *with)
     return left->is_new ? (first > second) - (first < second) : strcmp(left->key, right->key);
 }
 
-static void find_tied(struct judging *judging)
+/* The numbers of the orders that aren't left in peace, in the sequence of judging: a list of one's own. */
+static size_t *in_sequence(struct learnt *learnt, size_t *count)
 {
-    judging->tied = take(judging->learnt->orders * sizeof *judging->tied);
-    for (size_t i = 0; i < judging->learnt->orders; i++)
-        if (knots_tie(&judging->knots, &judging->learnt->order[i]))
-            judging->tied[judging->ties++] = i;
-    if (judging->ties > 0)
-        qsort_r(judging->tied, judging->ties, sizeof *judging->tied, by_knot, judging);
-}
-
-/* A circle of more types than a trace has room for is told without the verifier. */
-static void tell_long(struct judging *judging, struct learnt_order *order, size_t types)
-{
-    char *head = say_text("a circle of %zu types, more than a trace has room for, is closed by %s", types, order->key);
-    reports_add(judging->made.reports, REPORT_OTHER, head);
-    order->is_against = true;
-    struct made *made = &judging->made;
-    ADD(made->closing, made->closings, made->closing_room) = (size_t)(order - judging->learnt->order);
-    free(head);
-}
-
-/* The shortest circle through the order, which comes last. */
-static void add_circle(struct judging *judging, struct forward *forward, size_t number)
-{
-    struct learnt_order *order = &judging->learnt->order[number];
-    size_t count = 0, *way = forward_way(forward, order->to, order->from, &count);
-    if (count + 1 > TYPES_MOST) {
-        tell_long(judging, order, count + 1);
-    } else {
-        way[count] = number; /* there is room for one more */
-        made_add(&judging->made, way, count + 1);
-    }
-    free(way);
-}
-
-/*
- * A knot with more types than a trace has room for: each order that closes a circle is replayed with the shortest one.
- */
-static void judge_large(struct judging *judging, const size_t *order, size_t count)
-{
-    struct forward *forward = forward_new(judging->learnt);
-    for (size_t i = 0; i < count; i++)
-        if (!forward_add(forward, order[i]))
-            add_circle(judging, forward, order[i]);
-    forward_end(forward);
-}
-
-static void judge_tied(struct judging *judging)
-{
-    for (size_t from = 0, to; from < judging->ties; from = to) {
-        size_t knot = judging->knots.of[judging->learnt->order[judging->tied[from]].from];
-        for (to = from; to < judging->ties; to++)
-            if (judging->knots.of[judging->learnt->order[judging->tied[to]].from] != knot)
-                break;
-        if (judging->knots.size[knot] > TYPES_MOST)
-            judge_large(judging, judging->tied + from, to - from);
-        else
-            made_add(&judging->made, judging->tied + from, to - from);
-    }
-}
-
-/* All orders that aren't against others, as far as they fit in one trace: none is reported. */
-static bool is_replayed_silently(struct learnt *learnt, const char *witness)
-{
-    struct reports reports = {0};
-    struct notes notes = {0};
-    struct made made;
-    size_t *order = take(learnt->orders * sizeof *order), count = 0;
+    size_t *sequence = take(learnt->orders * sizeof *sequence);
+    *count = 0;
     for (size_t i = 0; i < learnt->orders; i++)
-        if (order_counts(&learnt->order[i]))
-            order[count++] = i;
-    made_begin(&made, learnt, witness, &reports, &notes);
-    made_add(&made, order, count);
-    bool is_silent = made_end(&made) == 0 && reports.count == 0;
-    free(made.closing);
-    reports_end(&reports);
-    notes_end(&notes);
-    free(order);
-    return is_silent;
+        if (!learnt->order[i].is_blessed)
+            sequence[(*count)++] = i;
+    if (*count > 0)
+        qsort_r(sequence, *count, sizeof *sequence, by_trust, learnt);
+    return sequence;
 }
 
-/*
- * That the orders which aren't against others have no circle. The verifier can tell, too, if a trace has room for all
- * types.
- */
-static void show_rest(struct learnt *learnt, const struct judges *judges, struct judgement *judgement)
+/* Many lines go together. */
+static void feed(struct verdict *verdict, const struct learnt *learnt, const size_t *sequence, size_t count)
 {
-    struct knots knots;
-    knots_find(&knots, learnt);
-    size_t *sequence = knots_sequence(&knots, learnt);
-    enum certified certified = certify(learnt, sequence, judges->acyclic, &judgement->unshown);
-    judgement->is_shown = certified == CERTIFIED || (certified == NOT_CHECKED && learnt->types <= TYPES_MOST &&
-                                                        is_replayed_silently(learnt, judges->witness));
-    if (judgement->is_shown) {
-        free(judgement->unshown);
-        judgement->unshown = NULL;
+    char *bytes = take(FEED_BYTES);
+    size_t length = 0;
+    for (size_t i = 0; i < count; i++) {
+        const char *key = learnt->order[sequence[i]].key;
+        size_t more = strlen(key);
+        if (length + more + 1 > FEED_BYTES) {
+            verdict_feed(verdict, bytes, length);
+            length = 0;
+        }
+        memcpy(bytes + length, key, more);
+        length += more;
+        bytes[length++] = '\n';
     }
-    free(sequence);
-    knots_end(&knots);
+    verdict_feed(verdict, bytes, length);
+    free(bytes);
 }
 
-void learnt_judge(struct learnt *learnt, const struct judges *judges, struct judgement *judgement)
+/* An order that is told, and the way back. */
+struct circle {
+    size_t order, *way, count, room;
+    bool is_begun;
+};
+
+static void end_circle(struct judgement *judgement, struct learnt *learnt, struct circle *circle)
 {
-    struct judging judging = {.learnt = learnt};
+    if (!circle->is_begun)
+        return;
+    learnt->order[circle->order].is_against = true;
+    ADD(judgement->closing, judgement->against, judgement->room) = circle->order;
+    order_report(&judgement->reports, &judgement->notes, learnt, circle->order, circle->way, circle->count);
+    circle->is_begun = false;
+    circle->count = 0;
+}
+
+/* A line is an order, or set in a step of its way back. False where it is neither. */
+static bool read_line(struct judgement *judgement, struct learnt *learnt, struct circle *circle, const char *line)
+{
+    bool is_step = strncmp(line, "    ", INSET) == 0;
+    size_t number = map_find_text(&learnt->order_of, is_step ? line + INSET : line);
+    if (number == 0 || (is_step && !circle->is_begun))
+        return false;
+    if (is_step) {
+        ADD(circle->way, circle->count, circle->room) = number - 1;
+        return true;
+    }
+    end_circle(judgement, learnt, circle);
+    circle->order = number - 1;
+    circle->is_begun = true;
+    return true;
+}
+
+/* Whether all was told of so many orders: the last line counts them. */
+static bool read_told(struct judgement *judgement, struct learnt *learnt, char *told, size_t count)
+{
+    struct circle circle = {0};
+    char *rest, *line = strtok_r(told, "\n", &rest);
+    while (line && read_line(judgement, learnt, &circle, line))
+        line = strtok_r(NULL, "\n", &rest);
+    end_circle(judgement, learnt, &circle);
+    free(circle.way);
+    char *last = say_text("against: %zu of %zu orders, ", judgement->against, count);
+    bool is_whole = line && strncmp(line, last, strlen(last)) == 0;
+    free(last);
+    return is_whole;
+}
+
+void learnt_judge(struct learnt *learnt, const char *witness, struct judgement *judgement)
+{
+    struct verdict verdict;
+    char *told = NULL;
+    size_t length = 0, count = 0, *sequence = in_sequence(learnt, &count);
+    FILE *answer = open_memstream(&told, &length);
+    if (!answer)
+        abort();
     *judgement = (struct judgement){0};
-    knots_find(&judging.knots, learnt);
-    find_tied(&judging);
-    made_begin(&judging.made, learnt, judges->witness, &judgement->reports, &judgement->notes);
-    judge_tied(&judging);
-    int status = made_end(&judging.made);
-    free(judging.tied);
-    knots_end(&judging.knots);
+    verdict_ask(&verdict, (const char *const[]){witness, "orders", "judge", NULL}, answer);
+    feed(&verdict, learnt, sequence, count);
+    int status = verdict_end(&verdict);
+    fclose(answer);
+    free(sequence);
     if (status == NOT_RUN || status == NOT_FOUND)
-        judgement->failed = say_text("%s can't be run", judges->witness);
-    else if (status > REPLAYED_MOST)
-        judgement->failed =
-            say_text("%s doesn't accept the trace that is made of them, by status %d", judges->witness, status);
-    else if (judging.made.closings != judgement->reports.count)
-        judgement->failed = say_text("%s answers something else than reversals", judges->witness);
-    judgement->closing = judging.made.closing;
-    judgement->against = judging.made.closings;
-    if (!judgement->failed)
-        show_rest(learnt, judges, judgement);
+        judgement->failed = say_text("%s can't be run", witness);
+    else if (status > FOUND)
+        judgement->failed = say_text("%s doesn't accept the orders, by status %d", witness, status);
+    else if (!read_told(judgement, learnt, told, count))
+        judgement->failed = say_text("%s answers something else than what is against them", witness);
+    free(told);
 }
 
 void judgement_end(struct judgement *judgement)
@@ -169,7 +135,6 @@ void judgement_end(struct judgement *judgement)
     notes_end(&judgement->notes);
     free(judgement->closing);
     free(judgement->failed);
-    free(judgement->unshown);
     *judgement = (struct judgement){0};
 }
 

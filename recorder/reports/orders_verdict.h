@@ -1,6 +1,5 @@
 /*
- * Judges learnt orders, as many as there are: those on circles are replayed by the verifier, and that the rest has no
- * circle is shown by a certificate.
+ * Judges learnt orders, as many as there are: `witness orders judge` does, which is proved (docs/PROOFS.md).
  */
 #ifndef RECORD_ORDERS_VERDICT_H
 #define RECORD_ORDERS_VERDICT_H
@@ -8,26 +7,19 @@
 #include "report.h"
 #include "run_orders.h"
 
-/* The programs that judge. */
-struct judges {
-    const char *witness, *acyclic;
-};
-
 struct judgement {
     struct reports reports; /* a report for each circle */
     struct notes notes;
     size_t *closing;        /* of each report the number of the order that closes its circle */
-    size_t against;         /* orders that close a circle with those before them */
-    char *failed;           /* why it isn't judged; NULL where it is */
-    bool is_shown;          /* that all other orders together have no circle */
-    char *unshown;          /* why that isn't shown; NULL where it is */
+    size_t against, room;   /* orders that close a circle with those before them */
+    char *failed;           /* why it isn't judged; NULL where it is: then all other orders together have no circle */
 };
 
 /*
  * Known orders are judged before new ones, and those of more runs before others: so the rare one comes to be against
  * the others. Ends by judgement_end.
  */
-void learnt_judge(struct learnt *learnt, const struct judges *judges, struct judgement *judgement);
+void learnt_judge(struct learnt *learnt, const char *witness, struct judgement *judgement);
 void judgement_end(struct judgement *judgement);
 
 /*

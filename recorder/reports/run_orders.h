@@ -12,7 +12,7 @@
 
 struct texts;
 
-/* A line of a file of orders has at most so many bytes, since `acyclic` reads no longer ones. */
+/* A line of a file of orders has at most so many bytes, since `witness orders judge` reads no longer ones. */
 enum { ORDER_LINE_MOST = 4096 };
 
 struct learnt_type {

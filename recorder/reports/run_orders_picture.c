@@ -9,7 +9,6 @@
 #include "findings.h"
 #include "graph.h"
 #include "allocation.h"
-#include "order_circles.h"
 #include "output_files.h"
 #include "pictures.h"
 #include "prepare.h"

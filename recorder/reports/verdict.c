@@ -13,12 +13,11 @@ enum { PIPE_BYTES = 1 << 20, READ_BYTES = 1 << 16 };
 extern char **environ;
 
 /* Its standard input and output are these files. This process ignores the loss of a reader, its children don't. */
-static void spawn(struct verdict *verdict, const char *witness, const char *word, int in, int out, bool quiet)
+static void spawn(struct verdict *verdict, const char *const *words, int in, int out, bool quiet)
 {
     posix_spawn_file_actions_t files;
     posix_spawnattr_t how;
     sigset_t broken;
-    char *words[] = {(char *)witness, (char *)word, NULL};
     sigemptyset(&broken);
     sigaddset(&broken, SIGPIPE);
     posix_spawnattr_init(&how);
@@ -29,7 +28,7 @@ static void spawn(struct verdict *verdict, const char *witness, const char *word
     posix_spawn_file_actions_adddup2(&files, out, STDOUT_FILENO);
     if (quiet)
         posix_spawn_file_actions_addopen(&files, STDERR_FILENO, "/dev/null", O_WRONLY, 0);
-    int error = posix_spawnp(&verdict->process, witness, &files, &how, words, environ);
+    int error = posix_spawnp(&verdict->process, words[0], &files, &how, (char *const *)words, environ);
     posix_spawn_file_actions_destroy(&files);
     posix_spawnattr_destroy(&how);
     if (error) {
@@ -39,7 +38,7 @@ static void spawn(struct verdict *verdict, const char *witness, const char *word
 }
 
 /* Begins it with that file for its input, or with a pipe. */
-static void begin(struct verdict *verdict, const char *witness, const char *word, int trace, FILE *told)
+static void begin(struct verdict *verdict, const char *const *words, int trace, FILE *told)
 {
     int in[2] = {trace, -1}, out[2];
     *verdict = (struct verdict){.told = told, .status = 126, .in = -1, .out = -1};
@@ -52,7 +51,7 @@ static void begin(struct verdict *verdict, const char *witness, const char *word
         }
         return;
     }
-    spawn(verdict, witness, word, in[0], out[1], trace >= 0);
+    spawn(verdict, words, in[0], out[1], trace >= 0);
     close(out[1]);
     verdict->out = out[0];
     if (trace >= 0)
@@ -65,7 +64,12 @@ static void begin(struct verdict *verdict, const char *witness, const char *word
 
 void verdict_begin(struct verdict *verdict, const char *witness, const char *word, FILE *told)
 {
-    begin(verdict, witness, word, -1, told);
+    verdict_ask(verdict, (const char *const[]){witness, word, NULL}, told);
+}
+
+void verdict_ask(struct verdict *verdict, const char *const *words, FILE *told)
+{
+    begin(verdict, words, -1, told);
 }
 
 static void close_file(int *file)
@@ -127,7 +131,7 @@ int verdict_on(const char *witness, const char *word, const char *trace, FILE *t
     int file = open(trace, O_RDONLY | O_CLOEXEC);
     if (file < 0)
         return 126;
-    begin(&verdict, witness, word, file, told);
+    begin(&verdict, (const char *const[]){witness, word, NULL}, file, told);
     close(file);
     return verdict_end(&verdict);
 }

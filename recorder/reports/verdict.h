@@ -19,6 +19,9 @@ struct verdict {
 /* Begins it. The trace comes by `verdict_feed`. What it complains of is on standard error. */
 void verdict_begin(struct verdict *verdict, const char *witness, const char *word, FILE *told);
 
+/* The program and its words, with NULL after them. */
+void verdict_ask(struct verdict *verdict, const char *const *words, FILE *told);
+
 /* Where it has ended before, nothing is done. */
 void verdict_feed(struct verdict *verdict, const char *bytes, size_t length);
 

@@ -172,7 +172,6 @@ int main(int count, char **words)
         return orders_command(words[1], words + 3);
     options_read(&options, words[1], words + 2);
     options.settings.witness = judge_of(words[1], "WITNESS", "witness");
-    options.settings.acyclic = judge_of(words[1], "ACYCLIC", "acyclic");
     prepare_files(&options.settings);
     if (options.trace) {
         print_trace(&options.settings, options.trace);

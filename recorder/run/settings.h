@@ -23,7 +23,6 @@ struct settings {
     const char *program_name; /* --program-name NAME: what the program's own object is called there */
     const char *witness;   /* the program that replays */
     const char *grader;    /* the one that grades; NULL where it doesn't stand built */
-    const char *acyclic;   /* the program that checks that orders have no circle */
     const char *program;   /* the program's name, as it is told */
     const char *words;     /* the program with its words, as it was named */
     const char *misfit;    /* why the program can't be recorded, where that is known */

@@ -179,13 +179,9 @@ END
         [ "$(echo ORDERS*)" = "ORDERS ORDERS.lock ORDERS.runs" ] &&
         LC_ALL=C sort -c ORDERS && cat reports.? | grep -c '1 new order learnt' | grep -qx 6
     tell learns "six runs at once" $?
-    ACYCLIC=$work/none WITNESS=$WITNESS learnt 0 --known ORDERS --program-name bank1 -- ./test_transfer &&
-        ! grep -q "isn't shown" reports
-    tell learns "without the checker of certificates" $?
-    python3 "$maker" clean ORDERS 2000 && rm -f ORDERS.runs &&
-        ACYCLIC=$work/none learnt 0 --known ORDERS $as -- ./test_transfer &&
-        grep -qx "record: ORDERS: that there is no further circle isn't shown: $work/none can't be run" reports
-    tell learns "and with more types than a trace has room for" $?
+    python3 "$maker" clean ORDERS 2000 && rm -f ORDERS.runs && learnt 0 --known ORDERS $as -- ./test_transfer &&
+        grep -qx "record: ORDERS: 1 new order, 0 against others" reports
+    tell learns "with a file of 2,000 types" $?
 
     # What people copy: the third test fails, and what it would bring in isn't learnt.
     mkdir -p copy && find "$example" -maxdepth 1 -type f -exec cp {} copy \; && RECORD=$record ORDERS_COMMAND=$orders copy/ci >told 2>complaints

@@ -80,6 +80,35 @@ def reported(text):
     return sorted(re.findall(r'^ 1st "([^"]*)" .*\n 2nd "([^"]*)" ', text, re.M))
 
 
+def distance(edges, start, end):
+    """By how few of the edges start leads to end."""
+    far, rest = {start: 0}, [start]
+    while rest:
+        x = rest.pop(0)
+        for a, b in edges:
+            if a == x and b not in far:
+                far[b] = far[x] + 1
+                rest.append(b)
+    return far[end]
+
+
+def ways_are_shortest(counted, text):
+    """Whether each report's steps lead from the second of its types to the first, by as few orders as can be."""
+    known, ways = [], {}
+    for report in text.split("lock order reversal:\n")[1:]:
+        (x, y), = re.findall(r'^ 1st "([^"]*)" .*\n 2nd "([^"]*)" ', report, re.M)
+        ways[x, y] = re.findall(r'^ "([^"]*)" -> "([^"]*)" @ ', report, re.M)
+    for x, y in sorted(counted, key=lambda pair: (-counted[pair], line(*pair))):
+        if (x, y) not in ways:
+            known.append((x, y))
+            continue
+        way = ways[x, y]
+        ends = [y, *(b for _, b in way)]
+        if [a for a, _ in way] != ends[:-1] or ends[-1] != x or not set(way) <= set(known) or len(way) != distance(known, y, x):
+            return False
+    return True
+
+
 def judged(files):
     done = subprocess.run([os.environ["ORDERS"], "judge", *files], capture_output=True, text=True)
     return done.stdout, done.returncode, done.stderr
@@ -101,7 +130,7 @@ def at_random(seed, count):
             wanted = closing(counted)
             text, status, complaints = judged(files)
             circles += bool(wanted)
-            if reported(text) != wanted or status != bool(wanted) or complaints or (not wanted) != ("orders: clean: " in text):
+            if reported(text) != wanted or not ways_are_shortest(counted, text) or status != bool(wanted) or complaints or (not wanted) != ("orders: clean: " in text):
                 wrong += 1
                 print(f"orders.py: graph {seed}-{at}: {reported(text)}, {status} in place of {wanted}: {complaints}")
     print(f"{count} graphs, {circles} with circles, {wrong} wrong")

@@ -3,7 +3,6 @@
 orders=$recorder/orders
 maker=$here/orders.py
 tab=$(printf '\t')
-export ACYCLIC="${ACYCLIC:-$(dirname "$recorder")/crates/acyclic/out/acyclic}"
 
 # ordered ARGS..: what `orders` writes is in `told` and `complaints`, and its status is $status.
 ordered() {
@@ -107,7 +106,7 @@ if wanted orders; then
     stands 0 "$a" "    $b  # f (x.c)" "$b" "    $c" "$c" "    $a  # h (z.c)"
     tell orders "a page to read" $?
 
-    # Judged: by the checker of certificates where it is there, else by the verifier.
+    # Judged, by the proved program.
     ordered judge good
     stands 0 "$good: 2 orders, 3 types, 1 run"
     tell orders "no circle" $?
@@ -134,30 +133,29 @@ if wanted orders; then
     ordered judge --ignore peace good
     [ "$status" -eq 2 ] && grep -q '^orders: peace: line 1 ' complaints
     tell orders "a file of these that is none" $?
-    ACYCLIC=$work/none ordered judge good
-    stands 0 "$good: 2 orders, 3 types, 1 run"
-    tell orders "no circle, without the checker" $?
-    printf '%s\n' '#!/bin/sh' 'cat >/dev/null' 'echo "line 4: backward"' 'exit 1' >backward && chmod +x backward
-    ACYCLIC=$work/backward ordered judge good
-    [ "$status" -eq 126 ] && grep -q "isn't shown: $work/backward answers by status 1: line 4: backward$" complaints &&
-        grep -q '^orders: no circle was found, and nothing shows that there is none: ' told
-    tell orders "a checker that doesn't accept the certificate" $?
-    printf '%s\n' '#!/bin/sh' 'cat >/dev/null' 'echo "acyclic: 3 types, 1 pairs"' >fewer && chmod +x fewer
-    ACYCLIC=$work/fewer ordered judge good
-    [ "$status" -eq 126 ] && grep -q "isn't shown: $work/fewer answers by status 0: acyclic: 3 types, 1 pairs$" complaints
-    tell orders "a checker that has read less" $?
+    printf '%s\n' '#!/bin/sh' 'cat >/dev/null' 'echo "against: 0 of 1 orders, 3 types"' >fewer && chmod +x fewer
+    WITNESS=$work/fewer ordered judge good
+    [ "$status" -eq 126 ] && [ ! -s told ] &&
+        echo "orders: $work/fewer answers something else than what is against them: nothing is judged" | diff - complaints
+    tell orders "a judge that has read less" $?
+    printf '%s\n' '#!/bin/sh' 'cat >/dev/null' "echo '$b > $c'" >cut && chmod +x cut
+    WITNESS=$work/cut ordered judge good
+    [ "$status" -eq 126 ] && [ ! -s told ] && grep -q 'answers something else' complaints
+    tell orders "a judge whose answer is cut" $?
+    printf '%s\n' '#!/bin/sh' 'cat >/dev/null' "echo '$a > $c'" 'echo "against: 1 of 2 orders, 3 types"' 'exit 1' >other.judge &&
+        chmod +x other.judge
+    WITNESS=$work/other.judge ordered judge good
+    [ "$status" -eq 126 ] && [ ! -s told ] && grep -q 'answers something else' complaints
+    tell orders "a judge that tells an order which isn't there" $?
     printf '%s\n' '#!/bin/sh' 'exit 4' >broken && chmod +x broken
-    ACYCLIC=$work/broken ordered judge good
-    [ "$status" -eq 126 ] && grep -q "isn't shown: $work/broken answers by status 4: $" complaints
-    tell orders "a checker that ends at once" $?
     WITNESS=$work/none ordered judge good other
     [ "$status" -eq 126 ] && [ ! -s told ] &&
         echo "orders: $work/none can't be run: nothing is judged" | diff - complaints
-    tell orders "no verifier" $?
+    tell orders "no judge" $?
     WITNESS=$work/broken ordered judge good other
     [ "$status" -eq 126 ] && [ ! -s told ] &&
-        echo "orders: $work/broken doesn't accept the trace that is made of them, by status 4: nothing is judged" | diff - complaints
-    tell orders "a verifier that fails" $?
+        echo "orders: $work/broken doesn't accept the orders, by status 4: nothing is judged" | diff - complaints
+    tell orders "a judge that fails" $?
 
     # Pictures.
     "$orders" judge --graph all.dot --html all.html other again good >/dev/null
@@ -205,8 +203,6 @@ if wanted fleet; then
     else
         ORDERS=$orders python3 "$maker" random 1 60
         tell fleet "orders at random: what is reported is what closes a circle with those of more runs" $?
-        ACYCLIC=$work/none ORDERS=$orders python3 "$maker" random 2 20
-        tell fleet "and without the checker of certificates" $?
         ORDERS=$orders python3 "$maker" broken 1 150
         tell fleet "files that are changed at random are read, or refused with the line" $?
         python3 "$maker" fleet recordings 10000
@@ -228,31 +224,21 @@ if wanted fleet; then
         tell fleet "the union and its counts are judged as all of them" $?
         rm -rf recordings
         python3 "$maker" ring ring 1500 && ordered judge ring
-        # That there is no other circle is shown, where the checker is there: a trace has no room for so many types.
-        [ "$status" -eq 1 ] &&
-            grep -q '^a circle of 1500 types, more than a trace has room for, is closed by mtx "t999" > mtx "t1000"$' told
-        tell fleet "a circle of more types than a trace has room for" $?
-        python3 "$maker" clean clean 20000
-        ACYCLIC=$work/none ordered judge clean
-        [ "$status" -eq 126 ] &&
-            echo "orders: that there is no circle isn't shown: $work/none can't be run" | diff - complaints &&
-            grep -q '^orders: no circle was found, and nothing shows that there is none: 59946 orders, 20000 types, 1 run$' told
-        tell fleet "20,000 types without the checker" $?
+        [ "$status" -eq 1 ] && [ ! -s complaints ] && sed -n 2,3p told | cut -d @ -f 1 >ends &&
+            printf '%s\n' ' 1st "t999" (t999, sleep mutex) ' ' 2nd "t1000" (t1000, sleep mutex) ' | diff - ends &&
+            grep -c '^ "t[0-9]*" -> "t[0-9]*" @ ?$' told | grep -qx 1499 &&
+            tail -n 1 told | grep -qx 'orders: 1 order against others, and no circle without it: 1500 orders, 1500 types, 1 run'
+        tell fleet "a circle of 1,500 types" $?
+        python3 "$maker" clean clean 20000 && ordered judge clean
+        stands 0 "$good: 59946 orders, 20000 types, 1 run"
+        tell fleet "20,000 types" $?
         python3 "$maker" large large 5000 && ordered judge large large.again large.planted
-        [ "$status" -ne 0 ] && sed -n 's/^ 1st "\([^"]*\)".*/\1/p' told >held &&
+        [ "$status" -eq 1 ] && sed -n 's/^ 1st "\([^"]*\)".*/\1/p' told >held &&
             sed -n 's/^ 2nd "\([^"]*\)".*/\1/p' told >asked &&
             paste held asked | sed "s/\(.*\)${tab}\(.*\)/mtx \"\1\" > mtx \"\2\"/" | LC_ALL=C sort >found &&
             cut -f 1 large.planted | diff - found
         tell fleet "a knot of 5,000 types with two planted orders" $?
-        if [ -x "$ACYCLIC" ]; then
-            ordered judge clean
-            stands 0 "$good: 59946 orders, 20000 types, 1 run"
-            tell fleet "20,000 types" $?
-            ordered judge large large.again large.planted
-            grep -q '^orders: 2 orders against others, and no circle without these: ' told && [ ! -s complaints ]
-            tell fleet "no circle without the two" $?
-        else
-            echo "left out  fleet: acyclic isn't built, and ACYCLIC names no other"
-        fi
+        grep -q '^orders: 2 orders against others, and no circle without these: ' told && [ ! -s complaints ]
+        tell fleet "no circle without the two" $?
     fi
 fi

@@ -1,0 +1,103 @@
+#include "order_reports.h"
+
+#include <stdio.h>
+#include <stdlib.h>
+#include <string.h>
+
+#include "allocation.h"
+#include "texts.h"
+
+/* The class as the verifier tells it. */
+static const char *class_told(const char *class)
+{
+    return strcmp(class, "mtx") == 0 ? "sleep mutex" : class;
+}
+
+/* The number that stands for the place; with the site where it is one of the run that ended just now. */
+static size_t spot(struct notes *notes, const char *place, const char *site)
+{
+    if (!notes->texts)
+        notes->texts = texts_new();
+    const char *told = texts_copy(notes->texts, place, strlen(place));
+    ADD(notes->spot, notes->spots, notes->spot_room) =
+        (struct spot){.site = site ? texts_copy(notes->texts, site, strlen(site)) : told, .told = told};
+    return notes->spots;
+}
+
+/* The runs that met the order, by the one of which its origin tells. */
+static char *runs_of(const struct learnt_order *order, const char *run)
+{
+    unsigned long more = order->runs > 1 ? order->runs - 1 : 0;
+    if (*run && more > 0)
+        return say_text(", in %s and %lu more run%s", run, more, more == 1 ? "" : "s");
+    if (*run)
+        return say_text(", in %s", run);
+    return more > 0 ? say_text(", in %lu runs", more + 1) : copy("");
+}
+
+/* Where the order's two types were asked for, and in which run, as texts of one's own. */
+static void places_of(const struct learnt_order *order, char **held, char **asked)
+{
+    const char *whole = order->origin, *middle = strstr(whole, " while "), *run = middle ? strrchr(middle, ',') : NULL;
+    if (!run || run[1] != ' ')
+        run = whole + strlen(whole);
+    char *runs = runs_of(order, *run ? run + 2 : run);
+    if (order->asked.place) {
+        *asked = say_text("%s%s", order->asked.place, runs);
+        *held = say_text("%s%s", order->held.place, runs);
+    } else if (*whole == '\0') {
+        *asked = say_text("?%s", runs);
+        *held = copy(*asked);
+    } else if (middle) {
+        *asked = say_text("%.*s%s", (int)(middle - whole), whole, runs);
+        *held = say_text("%.*s%s", (int)(run - middle - 7), middle + 7, runs);
+    } else {
+        *asked = say_text("%s%s", whole, runs);
+        *held = copy(*asked);
+    }
+    free(runs);
+}
+
+static void put_lock(FILE *to, const char *rank, const struct learnt_type *type, size_t spot)
+{
+    fprintf(to, " %s \"%s\" (%s, %s) @ @:%zu\n", rank, type->name, type->name, class_told(type->class), spot);
+}
+
+static void put_locks(FILE *to, struct notes *notes, const struct learnt *learnt, const struct learnt_order *order)
+{
+    char *held, *asked;
+    places_of(order, &held, &asked);
+    put_lock(to, "1st", &learnt->type[order->from], spot(notes, held, order->held.site));
+    put_lock(to, "2nd", &learnt->type[order->to], spot(notes, asked, order->asked.site));
+    free(held);
+    free(asked);
+}
+
+static void put_step(FILE *to, struct notes *notes, const struct learnt *learnt, const struct learnt_order *order)
+{
+    char *held, *asked;
+    places_of(order, &held, &asked);
+    fprintf(to, " \"%s\" -> \"%s\" @ @:%zu\n", learnt->type[order->from].name, learnt->type[order->to].name,
+        spot(notes, asked, order->asked.site));
+    free(held);
+    free(asked);
+}
+
+void order_report(struct reports *reports, struct notes *notes, const struct learnt *learnt, size_t order,
+    const size_t *way, size_t count)
+{
+    char *text = NULL;
+    size_t length = 0;
+    FILE *to = open_memstream(&text, &length);
+    if (!to)
+        abort();
+    fputs("lock order reversal:\n", to);
+    put_locks(to, notes, learnt, &learnt->order[order]);
+    fputs("established order:\n", to);
+    for (size_t i = 0; i < count; i++)
+        put_step(to, notes, learnt, &learnt->order[way[i]]);
+    fclose(to);
+    reports->notes = notes;
+    reports_read(reports, text, length);
+    free(text);
+}
