@@ -5,14 +5,26 @@
 #include "allocation.h"
 #include "finding_lines.h"
 #include "findings_run.h"
+#include "follow.h"
+#include "going_verdict.h"
 #include "output_files.h"
 #include "replay_answers.h"
 
 enum { BUFFER_BYTES = 1 << 16, BAD_LINES = 3 };
 
-static ssize_t replaying_writes(void *replaying, const char *bytes, size_t length)
+/* What the lines go to while they are made; one of them. */
+struct tee {
+    struct replaying *replaying;
+    struct going_verdict *going;
+};
+
+static ssize_t tee_writes(void *cookie, const char *bytes, size_t length)
 {
-    replaying_takes(replaying, bytes, length);
+    struct tee *tee = cookie;
+    if (tee->replaying)
+        replaying_takes(tee->replaying, bytes, length);
+    if (tee->going)
+        going_takes(tee->going, bytes, length);
     return (ssize_t)length;
 }
 
@@ -47,26 +59,59 @@ static void part_silenced(struct process *process)
     }
 }
 
-/* Makes the process's lines and its notes. What the verifier told of them, a text of one's own. */
+/* Makes the process's lines and its notes. */
+static void make_lines(struct process *process, struct tee *tee)
+{
+    FILE *to = fopencookie(tee, "w", (cookie_io_functions_t){.write = tee_writes});
+    if (!to)
+        return;
+    setvbuf(to, NULL, _IOFBF, BUFFER_BYTES);
+    process->resolved = resolve(process->run->resolver, &process->stream, to, &process->notes);
+    process->resolved &= fclose(to) == 0;
+}
+
+/* All that has come. What the verifier told, a text of one's own. */
+static char *told_of(struct process *process, struct replaying *replaying, size_t *length)
+{
+    process->status = replaying_end(replaying);
+    *length = replaying->told_length;
+    return replaying->told;
+}
+
 static char *ask(struct process *process, size_t *length)
 {
     struct replaying replaying;
+    struct tee tee = {.replaying = &replaying};
     replaying_begin(&replaying, &process->run->answers, process->run->settings.witness);
-    FILE *to = fopencookie(&replaying, "w", (cookie_io_functions_t){.write = replaying_writes});
-    if (to) {
-        setvbuf(to, NULL, _IOFBF, BUFFER_BYTES);
-        process->resolved = resolve(process->run->resolver, &process->stream, to, &process->notes);
-        process->resolved &= fclose(to) == 0;
-    }
-    process->status = replaying_end(&replaying);
-    *length = replaying.told_length;
-    return replaying.told;
+    make_lines(process, &tee);
+    return told_of(process, &replaying, length);
+}
+
+/* Asks the verifier that goes on; where it can't, another one, about the lines that it has. */
+static char *ask_going(struct process *process, struct going_verdict *going, size_t *length)
+{
+    const char *witness = process->run->settings.witness;
+    bool ends = !process->is_followed || process->is_last_look;
+    struct replaying replaying;
+    struct tee tee = {.going = going};
+    going_begins(going);
+    make_lines(process, &tee);
+    char *told = ends ? going_ends(going, witness, length) : going_looks(going, witness, length);
+    process->status = ends ? going->status : 0;
+    if (told && process->status <= BAD_LINES)
+        return told;
+    free(told);
+    replaying_begin(&replaying, &process->run->answers, witness);
+    replaying_takes(&replaying, going->lines, going->length);
+    going_leaves(going);
+    return told_of(process, &replaying, length);
 }
 
 void replay(struct process *process)
 {
     size_t length = 0;
-    char *told = ask(process, &length);
+    struct going_verdict *going = follow_verdict(process->run, process);
+    char *told = going ? ask_going(process, going, &length) : ask(process, &length);
     process->reports.notes = &process->notes;
     process->state.lacks_orders = !wants_orders(process);
     finding_lines_read(&process->reports, &process->state, told, length);

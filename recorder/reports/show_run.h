@@ -88,6 +88,7 @@ struct process {
     int status;           /* of the verifier, as a shell says it */
     bool resolved;        /* else its lines couldn't be made */
     bool is_followed;     /* it goes on, and only its reports are wanted */
+    bool is_last_look;    /* and it isn't looked at again meanwhile */
 };
 
 /* Why nothing is known of a program, where nothing else is known to be the cause. */
