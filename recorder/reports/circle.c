@@ -3,7 +3,6 @@
 #include <stdlib.h>
 #include <string.h>
 
-#include "holdings.h"
 #include "allocation.h"
 #include "thread_label.h"
 
@@ -24,15 +23,13 @@ static const struct event *thread_of(const struct notes *notes, unsigned seat, s
     return NULL;
 }
 
-/* A line of the last report, of a seat and a lock. The heading is let go. */
-static struct report_line *add_line(
-    struct process *process, enum line_kind kind, unsigned seat, const char *lock, char *heading, struct piece place)
+/* A line of the last report, of a seat and a lock, at a place of the notes or a site. The heading is let go. */
+static struct report_line *add_line(struct process *process, enum line_kind kind, unsigned seat, const char *lock,
+    char *heading, size_t spot, const char *site)
 {
-    char *at = copy_bytes(place.at ? place.at : "", (size_t)place.length);
-    struct report_line *line = reports_add_line(&process->reports, kind, heading, at);
+    struct report_line *line = reports_add_line(&process->reports, kind, heading, spot, site);
     line->seat = seat;
     line->name = copy(lock);
-    free(at);
     free(heading);
     return line;
 }
@@ -40,12 +37,12 @@ static struct report_line *add_line(
 /* What the seat holds, a line for each lock. */
 static void add_held(struct process *process, unsigned seat, const struct event *thread)
 {
-    const struct seat *held = &process->state.holdings.seat[seat];
+    const struct seat *held = &process->state.seat[seat];
     char *name = thread_name(thread);
     for (size_t i = 0; i < held->count; i++) {
         const char *lock = notes_lock(&process->notes, held->held[i].lock)->name;
         char *heading = say_text(" seat %u%s holds \"%s\"", seat, name, lock);
-        add_line(process, LINE_HOLDS, seat, lock, heading, held->held[i].place);
+        add_line(process, LINE_HOLDS, seat, lock, heading, held->held[i].spot, NULL);
     }
     free(name);
 }
@@ -64,7 +61,7 @@ static bool is_read_by(const struct seat *seat, unsigned lock)
  * waits for all that read: so it waits for each of these. The writer needn't be in the trace.
  */
 struct walk {
-    const struct holdings *holdings;
+    const struct seat *seat; /* by their numbers */
     unsigned path[SEATS_MOST + 1], length;
     bool was_there[SEATS_MOST + 1];
 };
@@ -91,8 +88,8 @@ static bool is_waited_for(const struct seat *waits, const struct seat *has)
 static bool comes_round(struct walk *walk)
 {
     unsigned last = walk->path[walk->length - 1];
-    for (unsigned next = 1; walk->holdings->seat[last].asked && next <= SEATS_MOST; next++) {
-        if (!is_waited_for(&walk->holdings->seat[last], &walk->holdings->seat[next]))
+    for (unsigned next = 1; walk->seat[last].asked && next <= SEATS_MOST; next++) {
+        if (!is_waited_for(&walk->seat[last], &walk->seat[next]))
             continue;
         if (next == walk->path[0])
             return true;
@@ -111,13 +108,13 @@ static bool comes_round(struct walk *walk)
 static void add_wait(struct process *process, unsigned seat, unsigned next)
 {
     const struct notes *notes = &process->notes;
-    const struct seat *waits = &process->state.holdings.seat[seat], *has = &process->state.holdings.seat[next];
+    const struct seat *waits = &process->state.seat[seat], *has = &process->state.seat[next];
     const struct event *thread = thread_of(notes, seat, notes->events);
     const char *lock = notes_lock(notes, waits->asked)->name;
     char *label = thread_label(thread), *name = thread_name(thread_of(notes, next, notes->events));
     char *heading = say_text(" seat %u%s waits for \"%s\" %s seat %u%s", seat, label, lock,
         is_behind(waits, has) ? "behind a writer, who waits for" : "held by", next, name);
-    struct report_line *line = add_line(process, LINE_WAITS, seat, lock, heading, waits->asked_at);
+    struct report_line *line = add_line(process, LINE_WAITS, seat, lock, heading, waits->asked_at, NULL);
     line->next = next;
     line->is_behind_readers = is_read_by(has, waits->asked);
     add_held(process, seat, thread);
@@ -137,7 +134,7 @@ static void add_seats(struct process *process, const unsigned *seat, size_t seat
 static void add_circle_of_readers(struct process *process)
 {
     struct walk *walk = take(sizeof *walk);
-    walk->holdings = &process->state.holdings;
+    walk->seat = process->state.seat;
     for (unsigned first = 1; first <= SEATS_MOST; first++) {
         memset(walk->was_there, 0, sizeof walk->was_there);
         walk->path[0] = first;
@@ -164,7 +161,7 @@ static void add_again(struct process *process, size_t number)
     reports_add(&process->reports, REPORT_SELF, "a thread waited for a lock that it held itself:")->is_over =
         again->is_over;
     char *heading = say_text(" seat %u%s waited for \"%s\"", again->seat, label, lock);
-    add_line(process, LINE_WAITS, again->seat, lock, heading, (struct piece){site, (int)strlen(site)});
+    add_line(process, LINE_WAITS, again->seat, lock, heading, 0, site);
     add_held(process, again->seat, thread);
     free(label);
 }
@@ -172,10 +169,10 @@ static void add_again(struct process *process, size_t number)
 void add_circles(struct process *process)
 {
     const struct notes *notes = &process->notes;
-    if (!process->has_state || (!notes->pending && !waits_for_itself(notes)))
+    if (!process->state.is_whole || (!notes->pending && !waits_for_itself(notes)))
         return;
-    if (notes->pending && process->state.seats > 0)
-        add_seats(process, process->state.seat, process->state.seats);
+    if (notes->pending && process->state.circles > 0)
+        add_seats(process, process->state.circle, process->state.circles);
     else if (notes->pending)
         add_circle_of_readers(process);
     for (size_t i = 0; i < notes->events; i++)

@@ -97,7 +97,7 @@ static uint64_t hash_line(const struct report *report, const struct report_line 
 static void make_fingerprint(struct finding *finding)
 {
     const struct report *report = finding->report;
-    const struct notes *notes = finding->is_silenced ? &finding->found->silenced_notes : &finding->found->notes;
+    const struct notes *notes = &finding->found->notes;
     bool is_circle = report->kind == REPORT_CIRCLE;
     uint64_t hash = (uint64_t)report->kind + 1;
     for (size_t i = 0; i < report->lines; i++)
@@ -158,7 +158,7 @@ void findings_gather(struct findings *findings)
     for (size_t i = 0; i < findings->count; i++) {
         struct found *found = &findings->found[i];
         found->reports.notes = &found->notes;
-        found->silenced.notes = &found->silenced_notes;
+        found->silenced.notes = &found->notes;
         gather(findings, found, &found->reports, false);
     }
     for (size_t i = 0; i < findings->count; i++)
@@ -197,7 +197,6 @@ void findings_end(struct findings *findings)
         reports_end(&found->reports);
         reports_end(&found->silenced);
         notes_end(&found->notes);
-        notes_end(&found->silenced_notes);
         orders_end(&found->orders);
         free(found->program);
         free(found->picture);

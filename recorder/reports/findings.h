@@ -20,8 +20,7 @@ struct found {
     long process; /* 0 where it stands for many runs */
     struct notes notes;
     struct reports reports;
-    struct reports silenced; /* what is reported only without the user's ignore file */
-    struct notes silenced_notes;
+    struct reports silenced; /* what isn't told: by the user's ignore file, or as right in a library */
     struct order_list orders;
     char *picture;           /* of these, as SVG; NULL where none is drawn */
 };

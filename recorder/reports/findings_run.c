@@ -11,7 +11,6 @@
 #include "allocation.h"
 #include "output_files.h"
 #include "pictures.h"
-#include "replay.h"
 #include "steering_plan.h"
 #include "witness.h"
 
@@ -50,42 +49,10 @@ void findings_begin(struct run *run)
     run->output.by = &run->findings;
 }
 
-static bool is_equal(const struct report *one, const struct report *other)
-{
-    return one->kind == other->kind && one->silence && other->silence && strcmp(one->silence, other->silence) == 0;
-}
-
-static bool is_among(const struct reports *reports, const struct report *report)
-{
-    for (size_t i = 0; i < reports->count; i++)
-        if (is_equal(&reports->report[i], report))
-            return true;
-    return false;
-}
-
-/* What is reported where nothing is silenced, and not otherwise. */
-static void take_silenced(struct process *process, struct found *found)
-{
-    struct reports all = {0};
-    if (found->notes.matches == 0 && found->notes.libraries == 0)
-        return;
-    replay_with(process->run, process->recording, SILENCE_NOTHING, &all, &found->silenced_notes);
-    grade_reports(&all, process->run->settings.grader, false);
-    for (size_t i = 0; i < all.count; i++) {
-        struct report *report = &all.report[i];
-        if (!report->silence || is_among(&found->reports, report))
-            continue;
-        ADD(found->silenced.report, found->silenced.count, found->silenced.room) = *report;
-        *report = (struct report){0};
-    }
-    reports_end(&all);
-}
-
 /* Errors in the use of locks are reports with one place. */
 static void take_errors(struct found *found)
 {
     struct reports *reports = &found->reports;
-    reports->notes = &found->notes;
     for (size_t i = 0; i < found->notes.events; i++) {
         const struct event *event = &found->notes.event[i];
         const char *text = error_text(event), *name = event->name ? event->name : "";
@@ -93,7 +60,7 @@ static void take_errors(struct found *found)
             continue;
         char *heading = say_text(" \"%s\"", name);
         reports_add(reports, REPORT_ERROR, text);
-        reports_add_line(reports, LINE_HOLDS, heading, event->site ? event->site : "?:0")->name = copy(name);
+        reports_add_line(reports, LINE_HOLDS, heading, 0, event->site ? event->site : "?:0")->name = copy(name);
         free(heading);
     }
 }
@@ -105,15 +72,17 @@ void findings_take(struct process *process)
         return;
     struct found *found = findings_add(&run->findings, process->name, process->recording->process);
     orders_read(process, &found->orders);
-    if (process->is_traced && confirm_is_wanted(&run->settings))
+    if (confirm_is_wanted(&run->settings))
         plan_finds_first_locks(process);
     found->notes = process->notes;
     found->reports = process->reports;
+    found->silenced = process->silenced;
     process->notes = (struct notes){0};
-    process->reports = (struct reports){0};
+    process->reports = process->silenced = (struct reports){0};
+    found->reports.notes = found->silenced.notes = &found->notes;
     if (!run->settings.no_errors)
         take_errors(found);
-    take_silenced(process, found);
+    grade_reports(&found->silenced, run->settings.grader, false);
 }
 
 /* A file that stands open, NULL where it can't be: whether it is written is said. */

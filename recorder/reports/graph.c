@@ -61,7 +61,7 @@ void draw(struct process *process)
 {
     struct run *run = process->run;
     const char *graph = run->settings.graph;
-    if (!is_asked(graph) || !process->has_state)
+    if (!is_asked(graph) || !process->state.is_whole)
         return;
     const char *dot = strrchr(graph, '.');
     char *file = copy(graph), *text = say_text("%s/dot", run->work);

@@ -294,7 +294,7 @@ static void write_lasting(struct objects *to, const struct notes *notes, const c
 
 static void write_report(struct objects *to, const struct finding *finding)
 {
-    const struct notes *notes = finding->is_silenced ? &finding->found->silenced_notes : &finding->found->notes;
+    const struct notes *notes = &finding->found->notes;
     const char *type[TYPES_SHOWN];
     size_t types = report_types(finding->report, type, TYPES_SHOWN);
     object_open(to, NULL, '{');

@@ -6,7 +6,6 @@
 #include "confirm.h"
 #include "learn.h"
 #include "allocation.h"
-#include "replay.h"
 #include "survivors.h"
 #include "unseen_locks.h"
 #include "whole_run.h"
@@ -35,32 +34,21 @@ static char *end_of_program(const struct run *run)
     return copy("");
 }
 
-static unsigned long count_with(struct run *run, enum silence silence)
+/* What the ignore file silences, where nothing is told. */
+static char *silenced(const struct run *run)
 {
-    unsigned long count = 0;
-    for (size_t i = 0; i < run->recordings; i++)
-        count += reports_with(run, &run->recording[i], silence);
-    return count;
-}
-
-/* The reports that there would be without the ignore file, where there is none with it. */
-static char *silenced(struct run *run)
-{
-    unsigned long right = run->matches > 0 && run->libraries > 0 ? count_with(run, SILENCE_IGNORED) : 0;
-    unsigned long count = run->matches > 0 ? count_with(run, SILENCE_NOTHING) : 0;
-    if (count <= right)
+    if (run->ignored == 0)
         return copy("");
-    char *reports = counted(count - right, "report", "s");
+    char *reports = counted(run->ignored, "report", "s");
     char *text = say_text(": %s silences %s", run->settings.ignore, reports);
     free(reports);
     return text;
 }
 
-/* The reports that there would be without the right orders of libraries: `, 2 known of libavcodec.so`, or an empty text. */
-static char *known_orders(struct run *run, const char *before)
+/* The reports of right orders of libraries: `, 2 known of libavcodec.so`, or an empty text. */
+static char *known_orders(const struct run *run, const char *before)
 {
-    unsigned long count = run->libraries > 0 ? count_with(run, SILENCE_IGNORED) : 0;
-    char *text = count > run->reports ? say_text("%s%lu known of", before, count - run->reports) : copy("");
+    char *text = run->known > 0 ? say_text("%s%lu known of", before, run->known) : copy("");
     for (size_t i = 0; *text && i < run->libraries; i++) {
         char *longer = say_text("%s%s %s", text, i == 0 ? "" : i + 1 == run->libraries ? " and" : ",", run->library[i]);
         free(text);

@@ -3,24 +3,17 @@
 #include <stdlib.h>
 #include <string.h>
 
-#include "holdings.h"
 #include "allocation.h"
 #include "order_place.h"
-#include "replay.h"
-#include "trace_lines.h"
 
 #define NAMELESS SIZE_MAX
 
-/* The trace of a process, and what is known of it by now. */
+/* A process, and what is known of it by now. */
 struct taking {
     const struct process *process;
     struct learning *learning;
-    struct trace trace;
-    struct holdings *holdings;
-    size_t *type, types, room; /* by locks: the number of the type among those that the run met */
-    struct map named;          /* by classes and types of the trace: 1 where no name lasts, else the number and 2 */
-    struct map seen;           /* pairs of numbers of locks that were looked at */
-    struct map blessed;        /* pairs of types of the trace, either order of which is allowed */
+    size_t *type;              /* by locks: the number of the type among those that the run met */
+    struct map named;          /* by classes and types: 1 where no name lasts, else the number and 2 */
     char *run;                 /* what the run is called */
 };
 
@@ -61,46 +54,29 @@ static size_t type_of(struct taking *taking, const struct lock_name *lock)
     return type;
 }
 
-/* Gives the locks that were read last their types. */
+/* Gives all locks their types. */
 static void type_locks(struct taking *taking)
 {
     const struct notes *notes = &taking->process->notes;
-    while (taking->types < taking->trace.locks) {
-        const struct lock_name *lock = taking->types < notes->locks ? &notes->lock[taking->types] : NULL;
-        char *word = lock ? say_text("%s %s", lock->class, lock->type) : copy("");
+    taking->type = take((notes->locks + 1) * sizeof *taking->type);
+    for (size_t i = 0; i < notes->locks; i++) {
+        char *word = say_text("%s %s", notes->lock[i].class, notes->lock[i].type);
         size_t *known = map_add_text(&taking->named, word);
         if (*known == 0) {
-            size_t type = lock ? type_of(taking, lock) : NAMELESS;
+            size_t type = type_of(taking, &notes->lock[i]);
             *known = type == NAMELESS ? 1 : type + 2;
         }
-        ADD(taking->type, taking->types, taking->room) = *known == 1 ? NAMELESS : *known - 2;
+        taking->type[i] = *known == 1 ? NAMELESS : *known - 2;
         free(word);
     }
 }
 
-/* `bless "TYPE" "TYPE"`. */
-static void read_bless(struct taking *taking, struct piece text)
+/* Either order of the locks' types is allowed. */
+static bool is_allowed(const struct taking *taking, unsigned held, unsigned asked)
 {
-    char *line = notes_whole(&taking->process->notes, text.at, (size_t)text.length);
-    char *middle = strncmp(line, "bless \"", 7) == 0 ? strstr(line, "\" \"") : NULL, *end = strrchr(line, '"');
-    if (middle && end > middle + 2) {
-        *middle = *end = '\0';
-        char *one = say_text("%s\n%s", line + 7, middle + 3), *other = say_text("%s\n%s", middle + 3, line + 7);
-        *map_add_text(&taking->blessed, one) = 1;
-        *map_add_text(&taking->blessed, other) = 1;
-        free(one);
-        free(other);
-    }
-    free(line);
-}
-
-static bool is_blessed(const struct taking *taking, unsigned held, unsigned asked)
-{
-    const struct lock_name *lock = taking->process->notes.lock;
-    char *pair = say_text("%s\n%s", lock[held - 1].type, lock[asked - 1].type);
-    bool is = map_has_text(&taking->blessed, pair);
-    free(pair);
-    return is;
+    const struct notes *notes = &taking->process->notes;
+    const char *one = notes->lock[held - 1].type, *other = notes->lock[asked - 1].type;
+    return strcmp(one, other) != 0 && peace_of(&notes->peace, one, other) != PEACE_NONE;
 }
 
 /*
@@ -121,7 +97,7 @@ static char *line_of(const struct taking *taking, size_t from, size_t to, const 
     return NULL;
 }
 
-static void add_order(struct taking *taking, size_t from, size_t to, struct piece held_at, struct piece asked_at)
+static void add_order(struct taking *taking, size_t from, size_t to, size_t held_at, size_t asked_at)
 {
     struct learning *learning = taking->learning;
     const struct notes *notes = &taking->process->notes;
@@ -149,56 +125,27 @@ static void note_nameless(struct taking *taking, unsigned lock)
         *map_add_text(&taking->learning->nameless, taking->process->notes.lock[lock - 1].type) = 1;
 }
 
-/* A lock is asked for while another is held. */
-static void take_pair(struct taking *taking, const struct holding *held, const struct trace_line *line)
-{
-    const unsigned locks[] = {held->lock, line->lock};
-    size_t *seen = map_add(&taking->seen, locks, sizeof locks);
-    if ((*seen)++ > 0 || is_blessed(taking, held->lock, line->lock))
-        return;
-    size_t from = taking->type[held->lock - 1], to = taking->type[line->lock - 1];
-    note_nameless(taking, held->lock);
-    note_nameless(taking, line->lock);
-    if (from != NAMELESS && to != NAMELESS && from != to)
-        add_order(taking, from, to, held->place, line->place);
-}
-
 static bool is_known(const struct taking *taking, unsigned lock)
 {
-    return lock > 0 && lock <= taking->types && lock <= taking->process->notes.locks;
+    return lock > 0 && lock <= taking->process->notes.locks;
 }
 
-/* One asks for a lock that it holds again without an order. */
-static void take_request(struct taking *taking, const struct trace_line *line)
+static void take_pair(struct taking *taking, const struct lock_pair *pair)
 {
-    const struct seat *seat = &taking->holdings->seat[line->seat];
-    for (size_t i = 0; i < seat->count; i++)
-        if (seat->held[i].lock == line->lock)
-            return;
-    for (size_t i = 0; i < seat->count; i++)
-        if (is_known(taking, seat->held[i].lock) && is_known(taking, line->lock))
-            take_pair(taking, &seat->held[i], line);
+    if (!is_known(taking, pair->held) || !is_known(taking, pair->asked) || is_allowed(taking, pair->held, pair->asked))
+        return;
+    size_t from = taking->type[pair->held - 1], to = taking->type[pair->asked - 1];
+    note_nameless(taking, pair->held);
+    note_nameless(taking, pair->asked);
+    if (from != NAMELESS && to != NAMELESS && from != to)
+        add_order(taking, from, to, pair->held_at, pair->asked_at);
 }
 
-static void take_lines(struct taking *taking)
-{
-    struct trace_line line;
-    while (trace_next(&taking->trace, &line)) {
-        if (line.word == TRACE_INIT)
-            type_locks(taking);
-        else if (line.word == TRACE_CHECK)
-            take_request(taking, &line);
-        else if (line.word == TRACE_OTHER)
-            read_bless(taking, line.text);
-        holdings_read(taking->holdings, &line);
-    }
-}
-
-/* The number of the type that has the name in the trace; NAMELESS where there is none. */
+/* The number of the type that has the name; NAMELESS where there is none. */
 static size_t type_called(const struct taking *taking, const char *name)
 {
     const struct notes *notes = &taking->process->notes;
-    for (size_t i = 0; name && i < notes->locks && i < taking->types; i++)
+    for (size_t i = 0; name && i < notes->locks; i++)
         if (strcmp(notes->lock[i].type, name) == 0)
             return taking->type[i];
     return NAMELESS;
@@ -239,20 +186,13 @@ void learn_take(struct process *process)
     if (!run->learning)
         run->learning = take(sizeof *run->learning);
     struct taking taking = {.process = process, .learning = run->learning};
-    if (!trace_is_there(process, "its orders aren't learnt") || !trace_open(&taking.trace, process->trace)) {
-        run->unknown = true;
-        return;
-    }
+    const struct lock_pairs *pairs = &process->notes.pairs;
     taking.run = run_name(process);
-    taking.holdings = take(sizeof *taking.holdings);
-    take_lines(&taking);
+    type_locks(&taking);
+    for (size_t i = 0; i < pairs->count; i++)
+        take_pair(&taking, &pairs->pair[i]);
     note_reports(&taking);
-    holdings_end(taking.holdings);
-    free(taking.holdings);
     free(taking.run);
     free(taking.type);
     map_end(&taking.named);
-    map_end(&taking.seen);
-    map_end(&taking.blessed);
-    trace_close(&taking.trace);
 }

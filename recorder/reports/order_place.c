@@ -9,14 +9,13 @@
 #include "place_words.h"
 
 /* `FUNCTION (FILE)`, or what is known of it; with the line in the file where that is wanted. */
-static void put_place(FILE *to, const struct notes *notes, struct piece piece, bool with_line)
+static void put_place(FILE *to, const struct notes *notes, size_t number, bool with_line)
 {
     struct place place;
-    char *text = copy_bytes(piece.at, (size_t)piece.length);
-    const struct spot *spot = notes_spot(notes, text);
+    const struct spot *spot = notes_spot(notes, number);
     const struct frames *frames = spot && spot->frames > 0 ? &notes->frames[spot->frames - 1] : NULL;
     const char *function = frames && frames->count > 0 ? frames->frame[0].function : NULL;
-    const char *site = notes_site(notes, text);
+    const char *site = notes_site(notes, number);
     bool is_line = place_read(&place, site) && place.line > 0;
     struct code_words code = {0};
     bool has_function = code_words_read(&code, site) && code.function_length > 0;
@@ -30,7 +29,6 @@ static void put_place(FILE *to, const struct notes *notes, struct piece piece, b
         fprintf(to, ":%ld", place.line);
     if (function || has_function)
         putc(')', to);
-    free(text);
 }
 
 char *plain_text(char *text)
@@ -41,24 +39,21 @@ char *plain_text(char *text)
     return text;
 }
 
-char *order_place(const struct notes *notes, struct piece piece, bool with_line)
+char *order_place(const struct notes *notes, size_t spot, bool with_line)
 {
     char *text = NULL;
     size_t length = 0;
     FILE *to = open_memstream(&text, &length);
     if (!to)
         return copy("?");
-    put_place(to, notes, piece, with_line);
+    put_place(to, notes, spot, with_line);
     fclose(to);
     return plain_text(text);
 }
 
-struct here here_of(const struct notes *notes, struct piece piece)
+struct here here_of(const struct notes *notes, size_t spot)
 {
-    char *text = copy_bytes(piece.at, (size_t)piece.length);
-    struct here here = {order_place(notes, piece, true), copy(notes_site(notes, text))};
-    free(text);
-    return here;
+    return (struct here){order_place(notes, spot, true), copy(notes_site(notes, spot))};
 }
 
 void here_end(struct here *here)

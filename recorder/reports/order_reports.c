@@ -1,17 +1,10 @@
 #include "order_reports.h"
 
-#include <stdio.h>
 #include <stdlib.h>
 #include <string.h>
 
 #include "allocation.h"
 #include "texts.h"
-
-/* The class as the verifier tells it. */
-static const char *class_told(const char *class)
-{
-    return strcmp(class, "mtx") == 0 ? "sleep mutex" : class;
-}
 
 /* The number that stands for the place; with the site where it is one of the run that ended just now. */
 static size_t spot(struct notes *notes, const char *place, const char *site)
@@ -58,26 +51,30 @@ static void places_of(const struct learnt_order *order, char **held, char **aske
     free(runs);
 }
 
-static void put_lock(FILE *to, const char *rank, const struct learnt_type *type, size_t spot)
+/* The only lock of the type. */
+static void add_lock(struct reports *reports, const struct learnt_type *type, size_t spot)
 {
-    fprintf(to, " %s \"%s\" (%s, %s) @ @:%zu\n", rank, type->name, type->name, class_told(type->class), spot);
+    const struct lock_name lock = {.name = type->name, .type = type->name, .class = type->class};
+    reports_add_lock(reports, &lock, spot);
 }
 
-static void put_locks(FILE *to, struct notes *notes, const struct learnt *learnt, const struct learnt_order *order)
+static void add_locks(
+    struct reports *reports, struct notes *notes, const struct learnt *learnt, const struct learnt_order *order)
 {
     char *held, *asked;
     places_of(order, &held, &asked);
-    put_lock(to, "1st", &learnt->type[order->from], spot(notes, held, order->held.site));
-    put_lock(to, "2nd", &learnt->type[order->to], spot(notes, asked, order->asked.site));
+    add_lock(reports, &learnt->type[order->from], spot(notes, held, order->held.site));
+    add_lock(reports, &learnt->type[order->to], spot(notes, asked, order->asked.site));
     free(held);
     free(asked);
 }
 
-static void put_step(FILE *to, struct notes *notes, const struct learnt *learnt, const struct learnt_order *order)
+static void add_step(
+    struct reports *reports, struct notes *notes, const struct learnt *learnt, const struct learnt_order *order)
 {
     char *held, *asked;
     places_of(order, &held, &asked);
-    fprintf(to, " \"%s\" -> \"%s\" @ @:%zu\n", learnt->type[order->from].name, learnt->type[order->to].name,
+    reports_add_step(reports, learnt->type[order->from].name, learnt->type[order->to].name,
         spot(notes, asked, order->asked.site));
     free(held);
     free(asked);
@@ -86,18 +83,12 @@ static void put_step(FILE *to, struct notes *notes, const struct learnt *learnt,
 void order_report(struct reports *reports, struct notes *notes, const struct learnt *learnt, size_t order,
     const size_t *way, size_t count)
 {
-    char *text = NULL;
-    size_t length = 0;
-    FILE *to = open_memstream(&text, &length);
-    if (!to)
-        abort();
-    fputs("lock order reversal:\n", to);
-    put_locks(to, notes, learnt, &learnt->order[order]);
-    fputs("established order:\n", to);
-    for (size_t i = 0; i < count; i++)
-        put_step(to, notes, learnt, &learnt->order[way[i]]);
-    fclose(to);
     reports->notes = notes;
-    reports_read(reports, text, length);
-    free(text);
+    notes->has_callers = true;
+    struct report *report = reports_add(reports, REPORT_REVERSAL, "lock order reversal:");
+    add_locks(reports, notes, learnt, &learnt->order[order]);
+    reports_add_words(reports, "established order:");
+    for (size_t i = 0; i < count; i++)
+        add_step(reports, notes, learnt, &learnt->order[way[i]]);
+    report_names_silence(report, notes);
 }

@@ -19,26 +19,14 @@ static bool is_broken(const struct reports *reports, const char *from, const cha
     return false;
 }
 
-/* Where the order was first asked for, a text of one's own; NULL where no thread asked for it. */
-static char *site_of(const struct notes *notes, struct piece place)
-{
-    char *text = copy_bytes(place.at, (size_t)place.length);
-    char *site = memchr(place.at, ':', (size_t)place.length) ? copy(notes_site(notes, text)) : NULL;
-    free(text);
-    return site;
-}
-
 /* An order that was adopted. */
 static void add_adopted(struct order_list *orders, const struct process *process, const struct known_order *known)
 {
-    const struct notes *notes = &process->notes;
-    char *from = notes_whole(notes, known->from.at, (size_t)known->from.length);
-    char *into = notes_whole(notes, known->into.at, (size_t)known->into.length);
     ADD(orders->order, orders->count, orders->room) = (struct order){
-        .from = from,
-        .to = into,
-        .site = site_of(notes, known->place),
-        .is_broken = is_broken(&process->reports, from, into),
+        .from = copy(known->from),
+        .to = copy(known->into),
+        .site = copy(notes_site(&process->notes, known->spot)),
+        .is_broken = is_broken(&process->reports, known->from, known->into),
     };
 }
 

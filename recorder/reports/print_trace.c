@@ -20,7 +20,7 @@ void print_trace(const struct settings *settings, const char *path)
         refuse_target("%s can't be read: %s", path, strerror(errno));
     version_check(path, stream.bytes, stream.length);
     struct resolver *resolver = resolver_new(&plain);
-    bool is_written = resolve(resolver, &stream, SILENCE_ALL, stdout, NULL);
+    bool is_written = resolve_trace(resolver, &stream, stdout);
     if (fflush(stdout) != 0)
         fail("the trace can't be written: %s", strerror(errno));
     if (!is_written)

@@ -4,14 +4,13 @@
 #include <string.h>
 
 #include "allocation.h"
-#include "state.h"
 
 enum { SHORT_BYTES = 1 << 20, ANSWERS_BYTES = 1 << 26, DEATH = 126 };
 
 void answers_end(struct answers *answers)
 {
     for (size_t i = 0; i < answers->count; i++) {
-        free(answers->answer[i].trace);
+        free(answers->answer[i].lines);
         free(answers->answer[i].told);
     }
     free(answers->answer);
@@ -30,8 +29,8 @@ static void begin(struct replaying *replaying)
     replaying->to = open_memstream(&replaying->told, &replaying->told_length);
     if (!replaying->to)
         return;
-    verdict_begin(&replaying->verdict, replaying->witness, "state", replaying->to);
-    verdict_feed(&replaying->verdict, replaying->trace, replaying->length);
+    verdict_begin(&replaying->verdict, replaying->witness, "findings", replaying->to);
+    verdict_feed(&replaying->verdict, replaying->lines, replaying->length);
 }
 
 void replaying_takes(struct replaying *replaying, const char *bytes, size_t length)
@@ -45,24 +44,24 @@ void replaying_takes(struct replaying *replaying, const char *bytes, size_t leng
     }
     while (replaying->length + length > replaying->room) {
         replaying->room = replaying->room ? 2 * replaying->room : 1 << 14;
-        replaying->trace = grow(replaying->trace, replaying->room, 1);
+        replaying->lines = grow(replaying->lines, replaying->room, 1);
     }
-    memcpy(replaying->trace + replaying->length, bytes, length);
+    memcpy(replaying->lines + replaying->length, bytes, length);
     replaying->length += length;
 }
 
-/* What it told of that trace before; NULL where it wasn't asked. */
-static const struct answer *known(const struct answers *answers, const char *trace, size_t length)
+/* What it told of those lines before; NULL where it wasn't asked. */
+static const struct answer *known(const struct answers *answers, const char *lines, size_t length)
 {
     for (size_t i = 0; i < answers->count; i++) {
         const struct answer *answer = &answers->answer[i];
-        if (answer->length == length && (length == 0 || memcmp(answer->trace, trace, length) == 0))
+        if (answer->length == length && (length == 0 || memcmp(answer->lines, lines, length) == 0))
             return answer;
     }
     return NULL;
 }
 
-/* Keeps the answer for another trace that is alike. One that couldn't be run isn't kept: it may be another time. */
+/* Keeps the answer for other lines that are alike. One that couldn't be run isn't kept: it may be another time. */
 static void keep(struct replaying *replaying, int status)
 {
     struct answers *answers = replaying->answers;
@@ -70,13 +69,13 @@ static void keep(struct replaying *replaying, int status)
     if (status >= DEATH || bytes > ANSWERS_BYTES - answers->bytes)
         return;
     ADD(answers->answer, answers->count, answers->room) = (struct answer){
-        replaying->trace, copy_bytes(replaying->told, replaying->told_length), replaying->length,
+        replaying->lines, copy_bytes(replaying->told, replaying->told_length), replaying->length,
         replaying->told_length, status};
     answers->bytes += bytes;
-    replaying->trace = NULL;
+    replaying->lines = NULL;
 }
 
-/* The verifier has all of the trace. */
+/* The verifier has all lines. */
 static int end(struct replaying *replaying)
 {
     int status = replaying->to ? verdict_end(&replaying->verdict) : DEATH;
@@ -92,7 +91,7 @@ static int end(struct replaying *replaying)
 int replaying_end(struct replaying *replaying)
 {
     bool is_short = !replaying->is_begun;
-    const struct answer *before = is_short ? known(replaying->answers, replaying->trace, replaying->length) : NULL;
+    const struct answer *before = is_short ? known(replaying->answers, replaying->lines, replaying->length) : NULL;
     int status;
     if (before) {
         status = before->status;
@@ -105,8 +104,7 @@ int replaying_end(struct replaying *replaying)
         if (is_short)
             keep(replaying, status);
     }
-    free(replaying->trace);
-    replaying->trace = NULL;
-    replaying->reports_length = state_begins(replaying->told, replaying->told_length);
+    free(replaying->lines);
+    replaying->lines = NULL;
     return status;
 }

@@ -1,6 +1,6 @@
 /*
- * What the verifier tells of a trace by its word `state`: the reports, and what is known then. In a run of many processes most traces are alike: one of which
- * it was asked before isn't given to it again.
+ * What `witness findings` tells of a process's lines. In a run of many processes most are alike: it isn't asked again about
+ * lines that it was asked about before.
  */
 #ifndef RECORD_REPLAY_ANSWERS_H
 #define RECORD_REPLAY_ANSWERS_H
@@ -11,9 +11,9 @@
 
 #include "verdict.h"
 
-/* What it told of a trace. */
+/* What it told of some lines. */
 struct answer {
-    char *trace, *told;
+    char *lines, *told;
     size_t length, told_length;
     int status;
 };
@@ -27,23 +27,23 @@ struct answers {
 
 void answers_end(struct answers *answers);
 
-/* A trace that comes, as long as it is short; a longer one goes to the verifier as it comes. */
+/* Lines that come, as long as they are few; more of them go to the verifier as they come. */
 struct replaying {
     struct answers *answers;
     const char *witness;
-    char *trace;
+    char *lines;
     size_t length, room;
     struct verdict verdict;
     bool is_begun;
     FILE *to;
     char *told; /* at its end: the caller's */
-    size_t told_length, reports_length; /* of all, and of the reports */
+    size_t told_length;
 };
 
 void replaying_begin(struct replaying *replaying, struct answers *answers, const char *witness);
 void replaying_takes(struct replaying *replaying, const char *bytes, size_t length);
 
-/* The trace has come. The verifier's status, as a shell says it. */
+/* All have come. The verifier's status, as a shell says it. */
 int replaying_end(struct replaying *replaying);
 
 #endif

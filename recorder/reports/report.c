@@ -6,15 +6,6 @@
 #include "allocation.h"
 #include "place_words.h"
 
-static const char reversal[] = "lock order reversal", duplicate[] = "acquiring duplicate lock";
-static const char established[] = "established order:";
-static const char *const classes[] = {"sleep mutex", "rw", "spin mutex", "sx", "rm", "lockmgr"};
-
-static bool begins(const char *text, const char *with)
-{
-    return strncmp(text, with, strlen(with)) == 0;
-}
-
 struct report *reports_add(struct reports *reports, enum report_kind kind, const char *head)
 {
     struct report *report = &ADD(reports->report, reports->count, reports->room);
@@ -32,13 +23,16 @@ static const struct event *known_of(const struct notes *notes, long thread)
     return NULL;
 }
 
-/* What the line tells of the place, where it is one of the notes'. */
-static void add_spot(struct report_line *line, const struct notes *notes, const struct spot *spot)
+/* What the notes tell of the place. */
+static void add_spot(struct report_line *line, const struct notes *notes, size_t number)
 {
+    const struct spot *spot = notes_spot(notes, number);
+    line->site = notes_site(notes, number);
+    if (!spot || !notes->has_callers)
+        return;
     line->is_spot = true;
-    line->spot = (size_t)(spot - notes->spot) + 1;
+    line->spot = number;
     line->at = spot->at;
-    line->site = spot->site;
     line->thread = spot->thread;
     line->known = known_of(notes, spot->thread);
     if (spot->frames > 0 && spot->frames <= notes->framed)
@@ -92,123 +86,85 @@ static void say_lock(struct report_line *line)
     free(lock);
 }
 
-/* The line has these words, and that place as it stands in the trace. */
-static void add_place(struct report_line *line, const struct notes *notes, char *words, const char *place)
+/* The line's place: of the notes by its number, else that site. */
+static void add_place(struct report_line *line, const struct notes *notes, size_t spot, const char *site)
 {
     struct code_words code;
-    const struct spot *spot = notes_spot(notes, place);
-    if (spot)
-        add_spot(line, notes, spot);
+    if (site)
+        line->site = line->own_site = copy(site);
     else
-        line->site = line->own_site = copy(place);
-    line->words = words;
+        add_spot(line, notes, spot);
     if (line->kind == LINE_LOCK && code_words_read(&code, line->site))
         say_lock(line);
     else if (line->kind == LINE_WAITS || line->kind == LINE_HOLDS)
         say_other(line, notes);
-    char *told = spot && spot->told ? say_text("@ %s", spot->told) : place_told(line->site);
+    const char *own = !site && notes_spot(notes, spot) ? notes_spot(notes, spot)->told : NULL;
+    char *told = own ? say_text("@ %s", own) : place_told(line->site);
     line->text = say_text("%s %s", line->words, told);
     free(told);
 }
 
-struct report_line *reports_add_line(struct reports *reports, enum line_kind kind, const char *heading, const char *place)
+static struct report_line *new_line(struct reports *reports, enum line_kind kind)
 {
     struct report *report = &reports->report[reports->count - 1];
     struct report_line *line = &ADD(report->line, report->lines, report->room);
-    *line = (struct report_line){.kind = kind, .heading = copy(heading)};
-    add_place(line, reports->notes, copy(heading), place);
+    *line = (struct report_line){.kind = kind};
     return line;
 }
 
-/* The number that a lock's line begins with, ` 1st "`; NULL where it begins with none. Else what comes after the quote. */
-static const char *after_number(const char *line)
+struct report_line *reports_add_line(
+    struct reports *reports, enum line_kind kind, const char *heading, size_t spot, const char *site)
 {
-    if (*line++ != ' ')
-        return NULL;
-    line += strspn(line, "0123456789");
-    if (!begins(line, "st \"") && !begins(line, "nd \"") && !begins(line, "rd \""))
-        return NULL;
-    return line + 4;
+    struct report_line *line = new_line(reports, kind);
+    line->heading = copy(heading);
+    line->words = copy(heading);
+    add_place(line, reports->notes, spot, site);
+    return line;
 }
 
-/* Where the class of a lock's line stands, after its type: `, CLASS) @ `. */
-static const char *class_in(const char *at, const char **class)
+void reports_add_words(struct reports *reports, const char *words)
 {
-    for (; (at = strstr(at, ", ")) != NULL; at += 2)
-        for (size_t i = 0; i < sizeof classes / sizeof *classes; i++) {
-            size_t length = strlen(classes[i]);
-            if (begins(at + 2, classes[i]) && begins(at + 2 + length, ") @ ")) {
-                *class = classes[i];
-                return at;
-            }
-        }
-    return NULL;
+    new_line(reports, LINE_PLAIN)->text = copy(words);
 }
 
-/* ` 1st "NAME" (TYPE, CLASS) @ PLACE` */
-static bool read_lock(struct report_line *line, const char *text)
+static const char *class_words(const char *class)
 {
-    const char *name = after_number(text), *class = NULL;
-    const char *quote = name ? strchr(name, '"') : NULL;
-    const char *after = quote && begins(quote, "\" (") ? class_in(quote + 3, &class) : NULL;
-    if (!after)
-        return false;
-    line->kind = LINE_LOCK;
-    line->name = copy_bytes(name, (size_t)(quote - name));
-    line->type = copy_bytes(quote + 3, (size_t)(after - quote - 3));
-    line->class = copy(class);
-    line->heading = copy_bytes(text, (size_t)(quote + 1 - text));
-    return true;
+    static const struct {
+        const char *class, *words;
+    } classes[] = {{"mtx", "sleep mutex"}, {"spin", "spin mutex"}};
+    for (size_t i = 0; i < sizeof classes / sizeof *classes; i++)
+        if (strcmp(classes[i].class, class) == 0)
+            return classes[i].words;
+    return class;
 }
 
-/* ` "TYPE" -> "OTHER" @ PLACE` */
-static bool read_step(struct report_line *line, const char *text)
+/* Which lock of its report it is. */
+static const char *rank_of(const struct report *report)
 {
-    const char *type = begins(text, " \"") ? text + 2 : NULL;
-    const char *quote = type ? strchr(type, '"') : NULL;
-    const char *other = quote && begins(quote, "\" -> \"") ? quote + 6 : NULL;
-    const char *end = other ? strchr(other, '"') : NULL;
-    if (!end || !begins(end, "\" @ "))
-        return false;
-    line->kind = LINE_STEP;
-    line->type = copy_bytes(type, (size_t)(quote - type));
-    line->other = copy_bytes(other, (size_t)(end - other));
-    line->heading = copy_bytes(text, (size_t)(end + 1 - text));
-    return true;
+    return report->last == 0 ? "1st" : report->first == 0 ? "2nd" : "3rd";
 }
 
-/* Where the place of the line stands, its last word; NULL where it has none. */
-static const char *place_in(const char *text)
+void reports_add_lock(struct reports *reports, const struct lock_name *lock, size_t spot)
 {
-    const char *blank = strrchr(text, ' ');
-    return blank && blank - text >= 2 && memcmp(blank - 2, " @ ", 3) == 0 ? blank + 1 : NULL;
-}
-
-/* A line of the verifier's, of the last report. */
-static void add_line(struct reports *reports, const char *text)
-{
+    struct report_line *line = new_line(reports, LINE_LOCK);
     struct report *report = &reports->report[reports->count - 1];
-    struct report_line *line = &ADD(report->line, report->lines, report->room);
-    const char *place = place_in(text);
-    *line = (struct report_line){.kind = LINE_PLAIN};
-    bool is_read = read_lock(line, text) || read_step(line, text);
-    if (place && (is_read || notes_spot(reports->notes, place)))
-        add_place(line, reports->notes, copy_bytes(text, (size_t)(place - 3 - text)), place);
-    else
-        line->text = copy(text);
-    if (line->is_spot && !is_read)
-        line->heading = copy(line->words);
-    if (line->kind == LINE_LOCK) {
-        report->first = report->last;
-        report->last = report->lines - 1;
-    }
+    line->name = copy(lock->name);
+    line->type = copy(lock->type);
+    line->class = copy(class_words(lock->class));
+    line->heading = say_text(" %s \"%s\"", rank_of(report), lock->name);
+    line->words = say_text("%s (%s, %s)", line->heading, lock->type, line->class);
+    add_place(line, reports->notes, spot, NULL);
+    report->first = report->last;
+    report->last = report->lines - 1;
 }
 
-static enum report_kind kind_of(const char *line)
+void reports_add_step(struct reports *reports, const char *from, const char *into, size_t spot)
 {
-    if (begins(line, reversal))
-        return REPORT_REVERSAL;
-    return begins(line, duplicate) ? REPORT_DUPLICATE : REPORT_OTHER;
+    char *heading = say_text(" \"%s\" -> \"%s\"", from, into);
+    struct report_line *line = reports_add_line(reports, LINE_STEP, heading, spot, NULL);
+    line->type = copy(from);
+    line->other = copy(into);
+    free(heading);
 }
 
 /* A type by what doesn't change with the lines of its source. */
@@ -225,40 +181,13 @@ static const char *stable(const struct notes *notes, const char *type)
 }
 
 /* The last two locks of a reversal are those whose types are at odds. */
-static void end_report(struct reports *reports)
+void report_names_silence(struct report *report, const struct notes *notes)
 {
-    struct report *report = reports->count > 0 ? &reports->report[reports->count - 1] : NULL;
-    if (!report || report->last == 0 || report->silence)
-        return;
-    const char *last = stable(reports->notes, report->line[report->last].type);
-    if (report->kind == REPORT_DUPLICATE || report->first == 0)
+    const char *last = stable(notes, report->line[report->last].type);
+    if (report->kind == REPORT_DUPLICATE)
         report->silence = say_text("\"%s\"", last);
     else
-        report->silence = say_text("\"%s\" \"%s\"", stable(reports->notes, report->line[report->first].type), last);
-}
-
-static void read_line(struct reports *reports, const char *text)
-{
-    bool is_head = *text && *text != ' ' && !begins(text, established);
-    if (is_head || reports->count == 0) {
-        end_report(reports);
-        reports_add(reports, kind_of(text), text);
-    } else {
-        add_line(reports, text);
-    }
-}
-
-void reports_read(struct reports *reports, const char *told, size_t length)
-{
-    const char *end = told + length;
-    while (told < end) {
-        const char *after = memchr(told, '\n', (size_t)(end - told));
-        char *text = notes_whole(reports->notes, told, (size_t)((after ? after : end) - told));
-        read_line(reports, text);
-        free(text);
-        told = after ? after + 1 : end;
-    }
-    end_report(reports);
+        report->silence = say_text("\"%s\" \"%s\"", stable(notes, report->line[report->first].type), last);
 }
 
 unsigned long reports_counted(const struct reports *reports)

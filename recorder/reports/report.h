@@ -27,9 +27,9 @@ struct report_line {
     char *heading;               /* of a place: these, and of a lock without its type */
     char *name, *type, *class;   /* of a lock; a step has the types that are in order as its type and other */
     char *other;
-    const char *site;            /* FILE:LINE, or as in ../code_words.h; `listed` or `defined` of a step that no thread made */
+    const char *site;            /* FILE:LINE, or as in ../code_words.h */
     char *own_site;              /* where it stands, if not in the notes */
-    bool is_spot;                /* it stood as a number of the notes, which know of its thread and its frames */
+    bool is_spot;                /* the notes know of its thread and its frames */
     const struct frames *frames; /* of the thread that was there; NULL where they aren't known */
     long thread;                 /* as the kernel counts; 0 where it isn't known */
     const struct event *known;   /* its name and who made it; NULL where they aren't known */
@@ -54,6 +54,7 @@ struct report {
     size_t first, last;       /* the numbers of the lines of the two locks whose types are at odds; 0 where there is none */
     bool is_over;             /* the thread that waited for itself went on */
     char *silence;            /* the line of an ignore file that would silence it; NULL where none would */
+    enum peace_cause peace;   /* why it isn't told */
     struct alarm alarm;       /* how much it is to be feared, once the reports are graded (grades.h) */
     struct schedule *schedule; /* how its threads come to hang; NULL where no single locks were taken both ways */
 };
@@ -66,12 +67,17 @@ struct reports {
     bool are_graded;
 };
 
-/* Adds what the verifier has told. */
-void reports_read(struct reports *reports, const char *told, size_t length);
-
-/* For what isn't the verifier's: a further report, and a line of the last one, at a place as it stands in the trace. */
+/* Adds a report, and lines of the last one: words alone; a lock; a step of the established order. */
 struct report *reports_add(struct reports *reports, enum report_kind kind, const char *head);
-struct report_line *reports_add_line(struct reports *reports, enum line_kind kind, const char *heading, const char *place);
+void reports_add_words(struct reports *reports, const char *words);
+void reports_add_lock(struct reports *reports, const struct lock_name *lock, size_t spot);
+void reports_add_step(struct reports *reports, const char *from, const char *into, size_t spot);
+/* Another line of it; its place is that site, or where it is NULL the one of that number in the notes. */
+struct report_line *reports_add_line(
+    struct reports *reports, enum line_kind kind, const char *heading, size_t spot, const char *site);
+
+/* Gives a reversal or a duplicate, which has all its locks, the line that would silence it. */
+void report_names_silence(struct report *report, const struct notes *notes);
 
 /* How many there are of the verifier's, and how many circles. */
 unsigned long reports_counted(const struct reports *reports);

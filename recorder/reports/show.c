@@ -235,6 +235,12 @@ void show_goes_on(struct run *run, pid_t process)
     follow(run);
 }
 
+void show_stops(struct run *run)
+{
+    if (run->process != 0)
+        follow_stops(run);
+}
+
 int show_ends(struct run *run, const struct ending *ending)
 {
     if (run->process == 0)

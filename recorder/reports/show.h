@@ -32,6 +32,9 @@ void show_leaves(struct run *run);
 /* The program goes on as that process: tells what is new. It returns soon, and may be called again and again. */
 void show_goes_on(struct run *run, pid_t process);
 
+/* The program has ended. After this `record` has no children that it began while it looked. */
+void show_stops(struct run *run);
+
 /*
  * Replays what the program and its children have left, and tells of it what wasn't told. The answer is the status of
  * `record`. `work` is removed, unless something in it is to be kept: that is told.

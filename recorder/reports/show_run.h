@@ -51,6 +51,7 @@ struct run {
     struct alarms_wanted alarms_wanted;
     int deadlock_status;  /* of `record`, since a process was ended; 0 where none was */
     unsigned long alarms; /* the reports that count for the status */
+    unsigned long ignored, known; /* what isn't told: by the user's file, and as right in a library */
     unsigned long confirmed; /* those that hung */
     bool reported;  /* something was, of any kind */
     bool misjudged; /* a trace isn't one of locks that were free when they were taken */
@@ -82,14 +83,12 @@ struct process {
     struct stream stream;
     struct notes notes;
     struct reports reports;
-    int status;           /* of its replay, as a shell says it */
-    bool resolved;        /* else its trace couldn't be made */
-    char *trace;          /* the file that its trace is in, where it is there */
-    bool is_traced;       /* it is there */
-    char *told;           /* what the verifier told, and what it knows: parts of that */
+    struct reports silenced; /* what isn't told: the user doesn't want it, or it is right in a library */
     struct state state;
-    bool has_state;       /* it was told */
+    int status;           /* of the verifier, as a shell says it */
+    bool resolved;        /* else its lines couldn't be made */
     bool is_followed;     /* it goes on, and only its reports are wanted */
+    bool is_last_look;    /* and it isn't looked at again meanwhile */
 };
 
 /* Why nothing is known of a program, where nothing else is known to be the cause. */

@@ -1,5 +1,5 @@
 /*
- * What the verifier knows when it has read a trace, as its word `state` tells it after the reports: see witness(1).
+ * What the verifier knows of a process, as it was told last.
  */
 #ifndef RECORD_STATE_H
 #define RECORD_STATE_H
@@ -7,28 +7,45 @@
 #include <stdbool.h>
 #include <stddef.h>
 
-#include "holdings.h"
+/* So many seats the verifier has room for. */
+enum { SEATS_MOST = 256 };
 
 /* An order that was adopted: its types, and where it was first asked for. */
 struct known_order {
-    struct piece from, into, place;
+    char *from, *into;
+    size_t spot;
 };
 
-/* The pieces are parts of what was told. */
+struct holding {
+    unsigned lock;
+    bool shared;
+    size_t spot; /* where it was asked for, or tried: a number of the notes */
+};
+
+struct seat {
+    struct holding *held; /* oldest first */
+    size_t count, room;
+    unsigned asked;       /* the lock that it waits for; 0 where it waits for none */
+    bool asked_shared;
+    size_t asked_at;
+};
+
+/* A new struct is all zeroes. */
 struct state {
-    struct piece clean; /* `clean`, or why the trace isn't */
+    bool lacks_orders; /* they aren't wanted */
+    bool is_whole; /* all was told */
+    bool is_clean; /* and nothing is to be feared of what was read */
+    size_t bads;   /* lines that can't be */
     struct known_order *order;
     size_t orders, order_room;
-    struct holdings holdings; /* each seat's, as when the trace ended */
-    unsigned *seat;           /* a circle: each seat waits for the next one, and the last for the first. None: 0 */
-    size_t seats, seat_room;
+    struct seat seat[SEATS_MOST + 1]; /* by their numbers */
+    unsigned *circle; /* each of these seats waits for the next one, and the last for the first */
+    size_t circles, circle_room;
 };
 
-/* Where the state begins in what was told, after the reports; its length where there is none. */
-size_t state_begins(const char *told, size_t length);
+/* What seats hold and ask for is told anew. */
+void state_forgets_seats(struct state *state);
 
-/* Reads it from there on. A new struct is all zeroes. False where there is none, or it isn't whole. */
-bool state_read(struct state *state, const char *told, size_t length);
 void state_end(struct state *state);
 
 #endif

@@ -27,7 +27,7 @@ enum { REPLAYED_MOST = 1, NOT_RUN = 126, NOT_FOUND = 127 };
 
 static bool is_replayed(const struct process *process)
 {
-    return process->resolved && process->status <= REPLAYED_MOST;
+    return process->resolved && process->status <= REPLAYED_MOST && process->state.is_whole;
 }
 
 /* Why it isn't known what the process did. The recording is kept then, with its trace where that is there. */
@@ -35,19 +35,17 @@ static void tell_failure(struct process *process)
 {
     struct run *run = process->run;
     if (!process->resolved)
-        say(&run->output, "%s: nothing is known of it: its recording can't be made a trace (is %s full?)", process->name,
-            file_temporary());
+        say(&run->output, "%s: nothing is known of it: its recording can't be read to its end", process->name);
     else if (process->status == NOT_RUN || process->status == NOT_FOUND)
         say(&run->output, "%s: nothing is known of it: %s can't be run", process->name, run->settings.witness);
     else
-        say(&run->output, "%s: the trace isn't accepted, by status %d:", process->name, process->status);
+        say(&run->output, "%s: its recording isn't accepted, by status %d:", process->name, process->status);
     keep_recording(run);
     run->unknown = true;
-    if (trace_is_there(process, "only the recorder's file is kept")) {
-        char *path = say_text("%s/%s.trace", run->records, process->recording->name);
-        trace_is_copied(process, path);
-        free(path);
-    }
+    char *path = say_text("%s/%s.trace", run->records, process->recording->name);
+    if (!trace_is_written(process, path))
+        say(&run->output, "%s: %s can't be written: only the recorder's file is kept", process->name, path);
+    free(path);
 }
 
 static void keep_name(struct process *process, const char *type)
@@ -155,7 +153,7 @@ static void tell_those(struct process *process, size_t count)
     for (size_t i = 0; i < count; i++)
         write_if_new(process, &process->reports.report[i], lines);
     fclose(lines);
-    if (length > 0 && run->output.several && (!process->resolved || process->status <= REPLAYED_MOST)) {
+    if (length > 0 && run->output.several && (!process->resolved || is_replayed(process))) {
         char *heading = say_text("record: %s:\n", process->name);
         tell_report(&run->output, heading, strlen(heading));
         free(heading);
@@ -190,23 +188,21 @@ void tell_new_reports(struct process *process)
     tell_those(process, count);
 }
 
-/* Which premise of a clean recording the process's trace doesn't meet: the first one of the first process. */
+/* Which premise of a clean recording the process doesn't meet: the first one of the first process. */
 static void look_for_premises(struct process *process)
 {
     struct run *run = process->run;
     unsigned long releases, rereads;
-    struct piece clean = process->state.clean;
-    char *known = clean.at ? copy_bytes(clean.at, (size_t)clean.length) : copy("its trace wasn't looked at");
-    const char *answer = known;
+    const struct state *state = &process->state;
+    const char *answer = !state->is_whole ? "it wasn't looked at" : state->is_clean ? NULL : "what was reported is silenced";
     if (!stream_count(&process->stream, "releases", &releases) || releases > 0)
         answer = "a lock was released by a thread that didn't hold it";
     else if (!stream_count(&process->stream, "rereads", &rereads) || rereads > 0)
         answer = "a thread read a lock again that it read, and a writer may come in between";
     if (process->notes.has_shared && run->status.loads > 1)
         answer = "locks that processes share are judged in each process by itself";
-    if (strcmp(answer, "clean") != 0 && !run->unclean)
+    if (answer && !run->unclean)
         run->unclean = say_text("%s: %s", process->name, answer);
-    free(known);
 }
 
 static void tell_waits(struct process *process)
@@ -276,6 +272,8 @@ static void keep_for_later(struct process *process)
 {
     struct run *run = process->run;
     const struct notes *notes = &process->notes;
+    for (size_t i = 0; i < process->silenced.count; i++)
+        *(process->silenced.report[i].peace == PEACE_BY_USER ? &run->ignored : &run->known) += 1;
     for (size_t i = 0; i < notes->matches; i++) {
         size_t at = 0;
         while (at < run->matches && run->matched[at] != notes->matched[i])
@@ -303,7 +301,7 @@ static void keep_trace(struct process *process)
 {
     struct run *run = process->run;
     const char *keep = run->settings.keep;
-    if (!is_asked(keep) || !trace_is_there(process, "it isn't kept"))
+    if (!is_asked(keep))
         return;
     if (run->shown > 0 && written_is_special(keep)) {
         if (run->shown == 1)
@@ -311,7 +309,7 @@ static void keep_trace(struct process *process)
         return;
     }
     char *file = run->shown > 0 ? say_text("%s.%zu", keep, run->shown) : copy(keep);
-    if (!trace_is_copied(process, file))
+    if (!trace_is_written(process, file))
         say(&run->output, "%s can't be written: the trace isn't kept", file);
     free(file);
 }
@@ -343,7 +341,6 @@ void tell_process(struct run *run, const struct recording *recording)
     char *path = say_text("%s/%s", run->records, recording->name);
     process->run = run;
     process->recording = recording;
-    process->trace = say_text("%s/trace", run->work);
     run_has_word(run, recording->process);
     bool is_open = stream_open(&process->stream, path, recording->goes_on);
     if (is_open && version_is_own(process->stream.bytes, process->stream.length)) {
@@ -366,8 +363,7 @@ void tell_process(struct run *run, const struct recording *recording)
 void process_end(struct process *process)
 {
     reports_end(&process->reports);
+    reports_end(&process->silenced);
     notes_end(&process->notes);
     state_end(&process->state);
-    free(process->told);
-    free(process->trace);
 }

@@ -6,9 +6,10 @@
 #include <signal.h>
 #include <spawn.h>
 #include <sys/wait.h>
+#include <time.h>
 #include <unistd.h>
 
-enum { PIPE_BYTES = 1 << 20, READ_BYTES = 1 << 16 };
+enum { PIPE_BYTES = 1 << 20, READ_BYTES = 1 << 16, LITTLE_BYTES = 1 << 12, MOMENT = 300000 };
 
 extern char **environ;
 
@@ -79,11 +80,20 @@ static void close_file(int *file)
     *file = -1;
 }
 
+/* It tells line by line. Where little has come, more may come in a moment: neither is woken for each line then. */
+static void let_come(const struct verdict *verdict)
+{
+    const struct timespec moment = {0, MOMENT};
+    if (verdict->had_little)
+        nanosleep(&moment, NULL);
+}
+
 /* Takes what it has told. */
 static void take_output(struct verdict *verdict)
 {
     char bytes[READ_BYTES];
     ssize_t length = read(verdict->out, bytes, sizeof bytes);
+    verdict->had_little = length < LITTLE_BYTES;
     if (length > 0)
         fwrite(bytes, 1, (size_t)length, verdict->told);
     else if (length == 0 || errno != EINTR)
@@ -99,8 +109,10 @@ void verdict_feed(struct verdict *verdict, const char *bytes, size_t length)
             return;
         if (files[1].revents)
             take_output(verdict);
-        if (!files[0].revents)
+        if (!files[0].revents) {
+            let_come(verdict);
             continue;
+        }
         ssize_t done = write(verdict->in, bytes, length);
         if (done > 0) {
             bytes += done;
@@ -109,6 +121,14 @@ void verdict_feed(struct verdict *verdict, const char *bytes, size_t length)
             close_file(&verdict->in);
         }
     }
+}
+
+bool verdict_hears(struct verdict *verdict)
+{
+    let_come(verdict);
+    if (verdict->out >= 0)
+        take_output(verdict);
+    return verdict->out >= 0;
 }
 
 int verdict_end(struct verdict *verdict)

@@ -14,6 +14,7 @@ struct verdict {
     pid_t process; /* 0 where it wasn't begun */
     int status;    /* where it wasn't begun: why, as a shell says it */
     int in, out;   /* -1 where closed */
+    bool had_little; /* of what it told, when that was taken last */
 };
 
 /* Begins it. The trace comes by `verdict_feed`. What it complains of is on standard error. */
@@ -24,6 +25,9 @@ void verdict_ask(struct verdict *verdict, const char *const *words, FILE *told);
 
 /* Where it has ended before, nothing is done. */
 void verdict_feed(struct verdict *verdict, const char *bytes, size_t length);
+
+/* Waits for what it tells next. False where it tells no more. */
+bool verdict_hears(struct verdict *verdict);
 
 /* No more of the trace comes. Its status, as a shell says it. */
 int verdict_end(struct verdict *verdict);

@@ -8,12 +8,16 @@
 
 #include "deadlock_watch.h"
 #include "allocation.h"
+#include "going_verdict.h"
 #include "replay.h"
 #include "tell_process.h"
 #include "version.h"
 
-/* A stream of more bytes is left until the end; so many times as long as a look took nothing is looked at. */
-enum { BYTES_MOST = 1 << 25, PAUSE = 4 };
+/*
+ * A stream of more bytes is left until the end; so many times as long as a look took nothing is looked at. So many processes
+ * have a verifier that goes on.
+ */
+enum { BYTES_MOST = 1 << 25, PAUSE = 4, GOING_MOST = 8 };
 
 /* A report that was told, and what was said of its single locks. */
 struct told_report {
@@ -27,6 +31,7 @@ struct followed {
     struct told_report *told;
     size_t tolds, told_room;
     struct deadlock deadlock;
+    struct going_verdict *going; /* it stays where it is: it is written to */
 };
 
 static struct followed *followed_of(struct run *run, const char *name)
@@ -34,7 +39,8 @@ static struct followed *followed_of(struct run *run, const char *name)
     for (size_t i = 0; i < run->followeds; i++)
         if (strcmp(run->followed[i].name, name) == 0)
             return &run->followed[i];
-    ADD(run->followed, run->followeds, run->followed_room) = (struct followed){.name = copy(name)};
+    ADD(run->followed, run->followeds, run->followed_room) = (struct followed){
+        .name = copy(name), .going = take(sizeof(struct going_verdict))};
     return &run->followed[run->followeds - 1];
 }
 
@@ -70,6 +76,8 @@ void follow_end(struct run *run)
             free(run->followed[i].told[at].alarm);
         }
         deadlock_end(&run->followed[i].deadlock);
+        going_leaves(run->followed[i].going);
+        free(run->followed[i].going);
         free(run->followed[i].told);
         free(run->followed[i].name);
     }
@@ -120,6 +128,44 @@ static void read_stream(struct run *run, const struct recording *recording, stru
         stream_close(&process.stream);
     }
     free(path);
+}
+
+struct going_verdict *follow_verdict(struct run *run, const struct process *process)
+{
+    size_t going = 0;
+    struct followed *mine = NULL;
+    for (size_t i = 0; i < run->followeds; i++) {
+        going += run->followed[i].going->is_begun;
+        if (strcmp(run->followed[i].name, process->recording->name) == 0)
+            mine = &run->followed[i];
+    }
+    return mine && (mine->going->is_begun || (process->is_followed && going < GOING_MOST)) ? mine->going : NULL;
+}
+
+/* The verifier of the stream ends with what there is of it. */
+static void stop(struct run *run, const struct recording *recording, struct followed *followed)
+{
+    struct process process = {.run = run, .recording = recording, .is_followed = true, .is_last_look = true};
+    char *path = say_text("%s/%s", run->records, recording->name);
+    if (stream_room(path) <= BYTES_MOST && stream_open(&process.stream, path, true)) {
+        replay(&process);
+        process_end(&process);
+        stream_close(&process.stream);
+    } else {
+        going_leaves(followed->going);
+    }
+    free(path);
+}
+
+void follow_stops(struct run *run)
+{
+    find_recordings(run);
+    for (size_t i = 0; i < run->recordings; i++) {
+        struct followed *followed = followed_of(run, run->recording[i].name);
+        if (followed->going->is_begun)
+            stop(run, &run->recording[i], followed);
+    }
+    forget_recordings(run);
 }
 
 void follow(struct run *run)

@@ -162,6 +162,8 @@ struct ending launch(const char *preload, char **words, struct run *run, bool fo
     pid_t program = begin(preload, words, &told, &before);
     int status = wait_for(program, &set, run, follows);
     struct ending ending = ending_of(program, status, told);
+    if (follows)
+        show_stops(run);
     ending.left = goes_on(&set);
     prctl(PR_SET_CHILD_SUBREAPER, 0);
     /* What `timeout` sends to all of them may come late: the program's end is told all the same. */

@@ -86,7 +86,7 @@ static bool knows(const char *witness, const char *word, const char *line)
 
 void replayer_check(struct settings *settings)
 {
-    const char *witness = settings->witness, *words[] = {NULL, "state", NULL};
+    const char *witness = settings->witness, *words[] = {NULL, "findings", NULL};
     if (!file_is_command(witness))
         fail("%s can't be run, and nothing else replays: nothing was run", witness);
     if (is_trial(settings)) {
@@ -98,7 +98,7 @@ void replayer_check(struct settings *settings)
     if (status >= NOT_RUN)
         fail("%s can't be run: nothing was run", witness);
     if (status == BAD_USAGE)
-        fail("%s doesn't know the word state: nothing was run", witness);
+        fail("%s doesn't know the word findings: nothing was run", witness);
     if (settings->judge && !knows(witness, "migrate", ""))
         fail("%s doesn't know --judge: nothing was run", witness);
     if (is_asked(settings->html) && !document_is_known(witness, "html"))

@@ -8,61 +8,31 @@
 
 #include "confirm.h"
 #include "files.h"
-#include "holdings.h"
 #include "allocation.h"
-#include "replay.h"
-#include "trace_lines.h"
 #include "write_all.h"
 
 enum { PAUSE_MS = 50, BACK_LEAST_MS = 100, BACK_MOST_MS = 1500 };
 
-/* The number of the place `@:NUMBER`; 0 of any other. */
-static size_t spot_in(struct piece place)
+/* Where the first lock of the step was taken; 0 where that isn't known. */
+static size_t held_at(const struct notes *notes, const struct report_line *step)
 {
-    size_t number = 0;
-    if (place.length < 3 || memcmp(place.at, "@:", 2) != 0)
-        return 0;
-    for (int i = 2; i < place.length && place.at[i] >= '0' && place.at[i] <= '9'; i++)
-        number = 10 * number + (size_t)(place.at[i] - '0');
-    return number;
-}
-
-/* The seat holds a lock of the step's first type, and asks for one of the other. */
-static void look_at_step(struct report_line *step, const struct seat *seat, const struct notes *notes, unsigned asked)
-{
-    if (step->held_spot || strcmp(notes_lock(notes, asked)->type, step->other) != 0)
-        return;
-    for (size_t i = 0; i < seat->count; i++)
-        if (strcmp(notes_lock(notes, seat->held[i].lock)->type, step->type) == 0)
-            step->held_spot = spot_in(seat->held[i].place);
-}
-
-static void look_at_request(struct process *process, const struct trace_line *line, const struct seat *seat)
-{
-    size_t spot = spot_in(line->place);
-    for (size_t i = 0; spot > 0 && i < process->reports.count; i++) {
-        const struct report *report = &process->reports.report[i];
-        for (size_t at = 0; at < report->lines; at++)
-            if (report->line[at].kind == LINE_STEP && report->line[at].spot == spot)
-                look_at_step(&report->line[at], seat, &process->notes, line->lock);
+    for (size_t i = 0; i < notes->pairs.count; i++) {
+        const struct lock_pair *pair = &notes->pairs.pair[i];
+        if (pair->asked_at == step->spot && strcmp(notes_lock(notes, pair->held)->type, step->type) == 0
+            && strcmp(notes_lock(notes, pair->asked)->type, step->other) == 0)
+            return pair->held_at;
     }
+    return 0;
 }
 
 void plan_finds_first_locks(struct process *process)
 {
-    struct trace trace;
-    struct trace_line line;
-    struct holdings *holdings = take(sizeof *holdings);
-    bool is_open = process->reports.count > 0 && trace_open(&trace, process->trace);
-    while (is_open && trace_next(&trace, &line)) {
-        if (line.word == TRACE_CHECK)
-            look_at_request(process, &line, &holdings->seat[line.seat]);
-        holdings_read(holdings, &line);
+    for (size_t i = 0; i < process->reports.count; i++) {
+        const struct report *report = &process->reports.report[i];
+        for (size_t at = 0; at < report->lines; at++)
+            if (report->line[at].kind == LINE_STEP)
+                report->line[at].held_spot = held_at(&process->notes, &report->line[at]);
     }
-    if (is_open)
-        trace_close(&trace);
-    holdings_end(holdings);
-    free(holdings);
 }
 
 /* False where the name is too long. */

@@ -26,15 +26,14 @@ static char *label_of(const struct notes *notes, unsigned seat)
 }
 
 /* A line of the seat. The first one says which thread it is. What is told there is let go. */
-static void add(struct scene *scene, unsigned seat, char *what, struct piece at)
+static void add(struct scene *scene, unsigned seat, char *what, size_t spot)
 {
     const struct notes *notes = &scene->process->notes;
-    char *before = scene->text[seat], *place = copy_bytes(at.at, (size_t)at.length);
-    char *label = before ? copy("") : label_of(notes, seat), *told = place_told(notes_site(notes, place));
+    char *before = scene->text[seat];
+    char *label = before ? copy("") : label_of(notes, seat), *told = place_told(notes_site(notes, spot));
     scene->text[seat] = say_text("%s seat %u%s %s %s\n", before ? before : "", seat, label, what, told);
     free(told);
     free(label);
-    free(place);
     free(before);
     free(what);
 }
@@ -43,12 +42,12 @@ static void add(struct scene *scene, unsigned seat, char *what, struct piece at)
 static void add_seat(struct scene *scene, unsigned number)
 {
     const struct notes *notes = &scene->process->notes;
-    const struct seat *seat = &scene->process->state.holdings.seat[number];
+    const struct seat *seat = &scene->process->state.seat[number];
     for (size_t i = seat->count; i > 0; i--) {
         const struct holding *held = &seat->held[i - 1];
         const char *name = notes_lock(notes, held->lock)->name;
         ADD(scene->name, scene->names, scene->room) = copy(name);
-        add(scene, number, say_text("holds \"%s\"%s", name, held->shared ? " (shared)" : ""), held->place);
+        add(scene, number, say_text("holds \"%s\"%s", name, held->shared ? " (shared)" : ""), held->spot);
     }
     if (seat->asked)
         add(scene, number, say_text("waits for \"%s\"", notes_lock(notes, seat->asked)->name), seat->asked_at);
@@ -133,7 +132,7 @@ static void tell_scene(const struct scene *scene)
 
 void tell_held(struct process *process)
 {
-    if (process->run->ending->how != HOW_RUNNING || !process->has_state)
+    if (process->run->ending->how != HOW_RUNNING || !process->state.is_whole)
         return;
     struct scene *scene = take(sizeof *scene);
     scene->process = process;

@@ -96,7 +96,7 @@ static void call(struct called *called, struct peace *peace, const struct ignore
     ADD(names->name, names->count, names->room) = name;
     if (line == 0)
         return;
-    *map_add_text(&peace->names, name) = 1;
+    peace_add_type(peace, name, PEACE_BY_USER);
     note_match(notes, line);
 }
 
@@ -106,18 +106,9 @@ static const struct names *names_of(const struct called *called, const char *wor
     return number ? &called->list[number - 1] : NULL;
 }
 
-/* The pair is new in either order. */
-static bool is_new(struct map *blessed, const char *first, const char *second)
-{
-    char *either = strcmp(first, second) < 0 ? say_text("%s\n%s", first, second) : say_text("%s\n%s", second, first);
-    size_t *number = map_add_text(blessed, either);
-    free(either);
-    return (*number)++ == 0;
-}
-
 /* All pairs of types that the two words of a line stand for. */
-static void bless(struct peace *peace, const struct called *called, struct map *blessed,
-    const struct ignored_pair *pair, struct notes *notes)
+static void bless(
+    struct peace *peace, const struct called *called, const struct ignored_pair *pair, struct notes *notes)
 {
     const struct names *first = names_of(called, pair->first), *second = names_of(called, pair->second);
     if (!first || !second)
@@ -125,9 +116,8 @@ static void bless(struct peace *peace, const struct called *called, struct map *
     note_match(notes, pair->line);
     for (size_t i = 0; i < first->count; i++)
         for (size_t j = 0; j < second->count; j++)
-            if (strcmp(first->name[i], second->name[j]) != 0 && is_new(blessed, first->name[i], second->name[j]))
-                ADD(peace->pair, peace->pairs, peace->pair_room) =
-                    (struct name_pair){first->name[i], second->name[j]};
+            if (strcmp(first->name[i], second->name[j]) != 0)
+                peace_add_pair(peace, first->name[i], second->name[j], PEACE_BY_USER);
 }
 
 static const char *noted(struct notes *notes, const char *text)
@@ -194,14 +184,8 @@ static void call_type(struct called *called, struct peace *peace, const struct i
 
 void peace_begin(struct peace *peace, const struct ignore *ignore, const struct types *types, struct notes *notes)
 {
-    static const struct ignore nothing;
     struct called called = {0};
-    struct map blessed = {0};
     *peace = (struct peace){0};
-    if (!ignore && !notes)
-        return;
-    if (!ignore)
-        ignore = &nothing;
     for (uint32_t number = 1; number < types->count; number++) {
         const struct named_type *type = &types->type[number];
         bool is_first = type->first == number;
@@ -210,17 +194,9 @@ void peace_begin(struct peace *peace, const struct ignore *ignore, const struct 
             note_alias(notes, type);
     }
     for (size_t i = 0; i < ignore->pairs; i++)
-        bless(peace, &called, &blessed, &ignore->pair[i], notes);
+        bless(peace, &called, &ignore->pair[i], notes);
     for (size_t i = 0; i < called.lists; i++)
         free(called.list[i].name);
     free(called.list);
     map_end(&called.words);
-    map_end(&blessed);
-}
-
-void peace_end(struct peace *peace)
-{
-    map_end(&peace->names);
-    free(peace->pair);
-    *peace = (struct peace){0};
 }

@@ -9,6 +9,7 @@
 
 #include "map.h"
 #include "notes.h"
+#include "peace.h"
 #include "types.h"
 
 /* A line with two types: either order of them is all right. */
@@ -27,20 +28,10 @@ struct ignore {
 void ignore_read(struct ignore *ignore, const char *path);
 void ignore_end(struct ignore *ignore);
 
-/* A pair of names of a trace. */
-struct name_pair {
-    const char *first, *second;
-};
-
-/* What it means for the types of a trace. */
-struct peace {
-    struct map names; /* names whose duplicates are all right, 1 each */
-    struct name_pair *pair; /* each once */
-    size_t pairs, pair_room;
-};
-
-/* Notes which lines name types of the trace, and what types are called besides. Without `ignore` nothing is ignored. */
+/*
+ * What is to be left in peace of these types. Notes which lines name them, and what types are called besides; without notes
+ * that isn't told.
+ */
 void peace_begin(struct peace *peace, const struct ignore *ignore, const struct types *types, struct notes *notes);
-void peace_end(struct peace *peace);
 
 #endif

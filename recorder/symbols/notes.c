@@ -2,9 +2,7 @@
 
 #include "allocation.h"
 #include "texts.h"
-#include "type_names.h"
 
-#include <stdio.h>
 #include <stdlib.h>
 #include <string.h>
 
@@ -21,6 +19,8 @@ void notes_end(struct notes *notes)
     map_end(&notes->cut);
     free(notes->whole);
     single_end(&notes->single);
+    peace_end(&notes->peace);
+    lock_pairs_end(&notes->pairs);
     texts_end(notes->texts);
     *notes = (struct notes){0};
 }
@@ -34,34 +34,10 @@ void notes_tell_cut(struct notes *notes, const char *cut, const char *name)
     *number = notes->wholes;
 }
 
-/* The whole name of which a cut one ends before `end`; NULL where none does. */
-static const char *whole_before(const struct notes *notes, const char *text, const char *end)
+const char *notes_whole(const struct notes *notes, const char *name)
 {
-    size_t number = end - text >= TRACE_NAME_MOST ? map_find(&notes->cut, end - TRACE_NAME_MOST, TRACE_NAME_MOST) : 0;
-    return number ? notes->whole[number - 1] : NULL;
-}
-
-char *notes_whole(const struct notes *notes, const char *text, size_t length)
-{
-    char *told = NULL;
-    size_t told_length = 0;
-    FILE *to = notes->wholes > 0 ? open_memstream(&told, &told_length) : NULL;
-    if (!to)
-        return copy_bytes(text, length);
-    const char *from = text, *end = text + length;
-    /* A number of eight digits follows the sign at which a name is cut. */
-    for (const char *at = text; (at = memchr(at, '~', (size_t)(end - at))) != NULL; at++) {
-        const char *after = end - at > 8 ? at + 9 : end;
-        const char *whole = whole_before(notes, from, after);
-        if (!whole)
-            continue;
-        fwrite(from, 1, (size_t)(after - TRACE_NAME_MOST - from), to);
-        fputs(whole, to);
-        from = after;
-    }
-    fwrite(from, 1, (size_t)(end - from), to);
-    fclose(to);
-    return told;
+    size_t number = map_find_text(&notes->cut, name);
+    return number ? notes->whole[number - 1] : name;
 }
 
 const struct lock_name *notes_lock(const struct notes *notes, unsigned number)
@@ -93,17 +69,13 @@ const struct alias *notes_alias(const struct notes *notes, const char *type)
     return NULL;
 }
 
-const struct spot *notes_spot(const struct notes *notes, const char *place)
+const struct spot *notes_spot(const struct notes *notes, size_t number)
 {
-    char *end;
-    if (strncmp(place, "@:", 2) != 0 || place[2] < '1' || place[2] > '9')
-        return NULL;
-    unsigned long number = strtoul(place + 2, &end, 10);
-    return *end == '\0' && number <= notes->spots ? &notes->spot[number - 1] : NULL;
+    return number > 0 && number <= notes->spots ? &notes->spot[number - 1] : NULL;
 }
 
-const char *notes_site(const struct notes *notes, const char *place)
+const char *notes_site(const struct notes *notes, size_t number)
 {
-    const struct spot *spot = notes_spot(notes, place);
-    return spot ? spot->site : place;
+    const struct spot *spot = notes_spot(notes, number);
+    return spot ? spot->site : "?:0";
 }

@@ -1,5 +1,5 @@
 /*
- * What the resolving of a recorder's file leaves beside the trace. All texts are the notes' own, and end with them.
+ * What the resolving of a recorder's file leaves beside the lines for the verifier. All texts are the notes' own, and end with them.
  */
 #ifndef RECORD_NOTES_H
 #define RECORD_NOTES_H
@@ -9,7 +9,9 @@
 #include <stdint.h>
 
 #include "lasting_names.h"
+#include "lock_pairs.h"
 #include "map.h"
+#include "peace.h"
 #include "single.h"
 
 /* A function and its FILE:LINE, of a stack. */
@@ -40,7 +42,7 @@ struct frames {
     size_t calls;
 };
 
-/* What `@:NUMBER` stands for as a place of the trace; numbers are from 1 on. Such places are written where stacks are shown. */
+/* Where a lock was asked for, or tried: a place has a number for each stack and thread. */
 struct spot {
     const char *site;
     const char *told; /* what a report's text has in its place; NULL where that is the site */
@@ -60,7 +62,7 @@ struct event {
         EVENT_OWNER,   /* the seat waits for the lock, which itself names that thread as its holder */
         EVENT_ERROR,   /* in the use of the lock: `what` says which */
     } kind;
-    unsigned seat, lock; /* the lock's number in the trace */
+    unsigned seat, lock; /* the lock's number in the stream */
     long thread;         /* of a thread or a holder, as the kernel counts */
     const char *what;    /* of an error, the word of format.h */
     const char *name;    /* of the thread, or of the lock; NULL where there is none */
@@ -80,7 +82,7 @@ struct alias {
     struct lasting lasting;
 };
 
-/* The single lock of a number in the trace. */
+/* The single lock of a number in the stream. */
 struct lock_name {
     const char *name, *type;
     const char *class; /* mtx, rw */
@@ -88,6 +90,7 @@ struct lock_name {
 };
 
 struct notes {
+    bool has_callers;  /* places have their threads and stacks; else their sites alone */
     struct spot *spot; /* spot[N - 1] is that of number N */
     size_t spots, spot_room;
     struct frames *frames;
@@ -104,10 +107,12 @@ struct notes {
     size_t libraries, library_room;
     struct lock_name *lock; /* lock[N - 1] is that of number N */
     size_t locks, lock_room;
-    struct map cut;         /* names that are too long for a trace, as it has them: numbers in the list, from 1 on */
+    struct map cut;         /* names that are too long for the verifier, as it has them: numbers in the list, from 1 on */
     const char **whole;
     size_t wholes, whole_room;
     struct single single;   /* the pairs of single locks */
+    struct peace peace;     /* what of its types isn't told */
+    struct lock_pairs pairs; /* of single locks, where orders are learnt or reports are to be confirmed */
     unsigned long pending;  /* requests that never ended */
     bool has_shared;        /* a lock may be taken by other processes, too */
     void *texts;            /* what the texts stand in */
@@ -115,10 +120,10 @@ struct notes {
 
 void notes_end(struct notes *notes);
 
-/* The name stands in the trace as that cut one. */
+/* The verifier has the name as that cut one. */
 void notes_tell_cut(struct notes *notes, const char *cut, const char *name);
-/* The text with whole names where it has cut ones: a text of one's own. */
-char *notes_whole(const struct notes *notes, const char *text, size_t length);
+/* The whole name of one that the verifier tells. */
+const char *notes_whole(const struct notes *notes, const char *name);
 /* The lock of that number in the trace; one without names where there is none. */
 const struct lock_name *notes_lock(const struct notes *notes, unsigned number);
 
@@ -126,9 +131,9 @@ const struct lock_name *notes_lock(const struct notes *notes, unsigned number);
 struct code_place notes_variable(const struct notes *notes, const char *type);
 /* What the type of that name is called besides; NULL where there is no such type. */
 const struct alias *notes_alias(const struct notes *notes, const char *type);
-/* The site of a place as it stands in a trace: of `@:NUMBER` the spot's, else the place itself. */
-const char *notes_site(const struct notes *notes, const char *place);
-/* The spot of such a place, NULL where it is none. */
-const struct spot *notes_spot(const struct notes *notes, const char *place);
+/* The place of that number; NULL where there is none. */
+const struct spot *notes_spot(const struct notes *notes, size_t number);
+/* Its site, FILE:LINE or as in ../code_words.h. */
+const char *notes_site(const struct notes *notes, size_t number);
 
 #endif

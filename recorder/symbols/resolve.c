@@ -3,6 +3,7 @@
 #include "declarations.h"
 #include "ignore.h"
 #include "allocation.h"
+#include "named_lines.h"
 #include "right_orders.h"
 #include "sites.h"
 #include "symbols.h"
@@ -52,40 +53,68 @@ void resolver_keeps(struct resolver *resolver, const struct stream *stream, cons
     told_names_add(resolver->told, stream->path, alias->source, alias->type);
 }
 
-bool resolve(struct resolver *resolver, const struct stream *stream, enum silence silence, FILE *trace, struct notes *notes)
-{
-    const struct settings *settings = resolver->settings;
+/* What is known of a stream before its lines are written. */
+struct known {
     struct declared declared;
     struct types types;
     struct peace peace;
     struct sites sites;
-    if (notes)
-        *notes = (struct notes){.texts = texts_new()};
-    if (silence && resolver->ignore.is_unread)
-        return false;
-    declared_read(&declared, stream, resolver->symbols, settings->progress);
-    sites_begin(&sites, &declared, settings->directory, notes ? notes->texts : declared.texts);
-    types_begin(&types, &declared);
-    type_names_give(&types, &declared, resolver->told, stream->path);
-    peace_begin(&peace, silence ? &resolver->ignore : NULL, &types, notes);
-    if (silence == SILENCE_ALL)
-        right_orders_silence(&resolver->right, stream, &declared, &types, &peace, notes);
-    struct making making = {
+    struct making making;
+};
+
+/* Without notes, where a trace alone is wanted. */
+static void known_begin(
+    struct known *known, struct resolver *resolver, const struct stream *stream, struct notes *notes)
+{
+    const struct settings *settings = resolver->settings;
+    declared_read(&known->declared, stream, resolver->symbols, settings->progress);
+    sites_begin(&known->sites, &known->declared, settings->directory, notes ? notes->texts : known->declared.texts);
+    types_begin(&known->types, &known->declared);
+    type_names_give(&known->types, &known->declared, resolver->told, stream->path);
+    peace_begin(&known->peace, &resolver->ignore, &known->types, notes);
+    right_orders_silence(&resolver->right, stream, &known->declared, &known->types, &known->peace, notes);
+    bool is_learnt = (settings->learn && *settings->learn) || (settings->known && *settings->known);
+    known->making = (struct making){
         .stream = stream,
-        .declared = &declared,
-        .types = &types,
-        .peace = &peace,
-        .sites = &sites,
-        .notes = notes,
+        .declared = &known->declared,
+        .types = &known->types,
+        .peace = &known->peace,
+        .sites = &known->sites,
         .frames = settings->frames > 1 ? (size_t)settings->frames : 1,
-        .is_learnt = (settings->learn && *settings->learn) || (settings->known && *settings->known),
+        .is_learnt = is_learnt,
+        .has_pairs = is_learnt || settings->confirm > 0,
         .progress = settings->progress,
-        .trace = trace,
     };
-    bool written = trace_write(&making) && !declared.is_odd;
-    peace_end(&peace);
-    types_end(&types);
-    sites_end(&sites);
-    declared_end(&declared);
+}
+
+static void known_end(struct known *known)
+{
+    types_end(&known->types);
+    sites_end(&known->sites);
+    declared_end(&known->declared);
+}
+
+bool resolve(struct resolver *resolver, const struct stream *stream, FILE *lines, struct notes *notes)
+{
+    struct known known;
+    *notes = (struct notes){.texts = texts_new()};
+    if (resolver->ignore.is_unread)
+        return false;
+    known_begin(&known, resolver, stream, notes);
+    bool written = named_lines_write(&known.making, lines, notes) && !known.declared.is_odd;
+    notes->peace = known.peace;
+    known_end(&known);
+    return written;
+}
+
+bool resolve_trace(struct resolver *resolver, const struct stream *stream, FILE *trace)
+{
+    struct known known;
+    if (resolver->ignore.is_unread)
+        return false;
+    known_begin(&known, resolver, stream, NULL);
+    bool written = trace_write(&known.making, trace) && !known.declared.is_odd;
+    peace_end(&known.peace);
+    known_end(&known);
     return written;
 }

@@ -274,17 +274,6 @@ static const char *library_if_right(const struct reading *reading, uint32_t held
     return is_wrong ? NULL : library;
 }
 
-static bool has_pair(const struct peace *peace, const char *first, const char *second)
-{
-    for (size_t i = 0; i < peace->pairs; i++) {
-        const struct name_pair *pair = &peace->pair[i];
-        if ((strcmp(pair->first, first) == 0 && strcmp(pair->second, second) == 0)
-            || (strcmp(pair->first, second) == 0 && strcmp(pair->second, first) == 0))
-            return true;
-    }
-    return false;
-}
-
 /* What is right of the two is silenced where the other way was met, too. */
 static void silence(const struct reading *reading, const struct met *met, struct peace *peace, struct notes *notes)
 {
@@ -292,12 +281,12 @@ static void silence(const struct reading *reading, const struct met *met, struct
     bool is_met = false, is_other_met = false, is_double = met->held == met->asked;
     const char *library = library_if_right(reading, met->held, met->asked, &is_met);
     library_if_right(reading, met->asked, met->held, &is_other_met);
-    if (!library || !is_other_met || (is_double ? map_has_text(&peace->names, held) : has_pair(peace, held, asked)))
+    if (!library || !is_other_met || peace_of(peace, held, asked) != PEACE_NONE)
         return;
     if (is_double)
-        *map_add_text(&peace->names, held) = 1;
+        peace_add_type(peace, held, PEACE_AS_RIGHT);
     else
-        ADD(peace->pair, peace->pairs, peace->pair_room) = (struct name_pair){held, asked};
+        peace_add_pair(peace, held, asked, PEACE_AS_RIGHT);
     for (size_t i = 0; notes && i < notes->libraries; i++)
         if (strcmp(notes->library[i], library) == 0)
             return;

@@ -1,5 +1,5 @@
 /*
- * The trace of a stream, and what beside it is noted: its second reading.
+ * The trace of a stream (witness-trace(5)).
  */
 #ifndef RECORD_TRACE_H
 #define RECORD_TRACE_H
@@ -8,26 +8,24 @@
 #include <stdio.h>
 
 #include "declarations.h"
-#include "ignore.h"
-#include "notes.h"
+#include "peace.h"
 #include "sites.h"
 #include "types.h"
 
-/* What a trace is made by. */
+/* What lines are made by. */
 struct making {
     const struct stream *stream;
     const struct declared *declared;
     struct types *types;
     const struct peace *peace;
     struct sites *sites;
-    struct notes *notes; /* NULL where none are wanted */
-    size_t frames;       /* so many of a stack are wanted; with 1 none, and places stand in the trace themselves */
-    bool is_learnt;      /* its orders are: places are noted also where no frames are wanted */
+    size_t frames;  /* so many of a stack are wanted; with 1 none */
+    bool is_learnt; /* its orders are: callers are noted also where no frames are wanted */
+    bool has_pairs; /* pairs of locks are noted */
     bool progress;
-    FILE *trace;
 };
 
 /* False where the trace can't be written, or a line of the stream can't be one. */
-bool trace_write(const struct making *making);
+bool trace_write(const struct making *making, FILE *trace);
 
 #endif

@@ -60,6 +60,31 @@ if wanted follows; then
     tell follows "a report of a child that has ended" $?
 fi
 
+# runs_made: how often the verifier was asked to judge lines.
+runs_made() {
+    grep -c '^findings$' words
+}
+
+# The verifier goes on with the program, and has each line once.
+if wanted once; then
+    compile live && compile kinds
+    printf '#!/bin/sh\necho "$1" >>"%s/words"\nexec "%s" "$@"\n' "$work" "$WITNESS" >counting && chmod +x counting
+    verifier=$WITNESS
+    WITNESS=$work/counting
+    "$record" -- true 2>/dev/null
+    rm -f words
+    begin_live -- ./live 0
+    comes '^lock order reversal' && [ "$(runs_made)" -eq 2 ]
+    before=$?
+    end_live && [ $before -eq 0 ] && [ "$(runs_made)" -eq 2 ] && grep -q '^record: 1 report, 0 circles, 1 process$' recorded.err
+    tell once "one verifier looks before the program, and one while it goes on and at its end" $?
+    printf '%s\n' '"made()<main()"' '"kinds.c:8<kinds.c:25" "kinds.c:8<kinds.c:24"' >list && rm -f words
+    "$record" --quiet --ignore list --json once.json -- ./kinds 2>recorded.err
+    [ "$(runs_made)" -eq 2 ] && [ "$(grep -c '"silenced": true' once.json)" -eq 2 ] && grep -q 'list silences 2 reports' recorded.err
+    tell once "what is silenced is asked for with the rest" $?
+    WITNESS=$verifier
+fi
+
 # Each process has the report: it is told of one of them.
 if wanted equal; then
     compile live

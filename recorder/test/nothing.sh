@@ -133,9 +133,9 @@ if wanted blind; then
     recorded_by "$record" --error-exitcode 9 -- ./none
     said 9 'nothing is known of none: it wasn.t started'
     tell blind "a status for a program that isn't there" $?
-    printf '#!/bin/sh\n[ "$(head -c 1)" != w ] || exit 4\n' >broken && chmod +x broken
+    printf '#!/bin/sh\n[ "$(head -c 1)" != a ] || exit 4\n' >broken && chmod +x broken
     WITNESS="$work/broken" recorded_by "$record" --error-exitcode 9 -- ./reversal
-    said 9 'the trace isn.t accepted, by status 4'
+    said 9 'its recording isn.t accepted, by status 4'
     drop_kept
     tell blind "a status for a replay that failed" $?
     # What is known in part has its reports alone to fail by.

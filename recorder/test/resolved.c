@@ -1,6 +1,6 @@
 /*
- * resolved FRAMES FILE..: prints the traces of recorder's files, of which one resolver makes them, with their notes where
- * there are frames. With `types` for FRAMES it prints the types alone: each one's lasting name, its build-id where it
+ * resolved FRAMES FILE..: prints the traces of recorder's files, of which one resolver makes them; or, where there are
+ * frames, the lines for the verifier, with their notes. With `types` for FRAMES it prints the types alone: each one's lasting name, its build-id where it
  * doesn't last, and after tabs the name by which it is told, and that by lines. The status is 4 where a file is none, or has what no recorder writes.
  */
 #include <stdio.h>
@@ -38,7 +38,7 @@ static bool print_names(struct resolver *resolver, const char *path)
     FILE *nowhere = fopen("/dev/null", "w");
     if (!nowhere || !stream_open(&stream, path, false))
         return false;
-    bool good = resolve(resolver, &stream, SILENCE_ALL, nowhere, &notes);
+    bool good = resolve(resolver, &stream, nowhere, &notes);
     print_types(&notes);
     notes_end(&notes);
     stream_close(&stream);
@@ -46,19 +46,34 @@ static bool print_names(struct resolver *resolver, const char *path)
     return good;
 }
 
-static bool print_trace(struct resolver *resolver, const char *path, bool has_notes)
+static bool print_lines(struct resolver *resolver, const char *path)
 {
     struct stream stream;
     struct notes notes;
     if (!stream_open(&stream, path, false))
         return false;
-    bool good = resolve(resolver, &stream, SILENCE_ALL, stdout, has_notes ? &notes : NULL);
-    if (has_notes) {
-        print_notes(&notes);
-        notes_end(&notes);
-    }
+    bool good = resolve(resolver, &stream, stdout, &notes);
+    print_notes(&notes);
+    notes_end(&notes);
     stream_close(&stream);
     return good;
+}
+
+static bool print_trace(struct resolver *resolver, const char *path)
+{
+    struct stream stream;
+    if (!stream_open(&stream, path, false))
+        return false;
+    bool good = resolve_trace(resolver, &stream, stdout);
+    stream_close(&stream);
+    return good;
+}
+
+static bool print(struct resolver *resolver, const char *frames, const char *path)
+{
+    if (strcmp(frames, "types") == 0)
+        return print_names(resolver, path);
+    return atoi(frames) > 1 ? print_lines(resolver, path) : print_trace(resolver, path);
 }
 
 int main(int count, char **words)
@@ -66,9 +81,8 @@ int main(int count, char **words)
     struct settings settings = {.frames = count > 1 ? atoi(words[1]) : 1};
     struct resolver *resolver = resolver_new(&settings);
     bool good = count > 2;
-    bool names = good && strcmp(words[1], "types") == 0;
     for (int i = 2; i < count; i++)
-        good = (names ? print_names(resolver, words[i]) : print_trace(resolver, words[i], settings.frames > 1)) && good;
+        good = print(resolver, words[1], words[i]) && good;
     resolver_end(resolver);
     return good ? 0 : 4;
 }

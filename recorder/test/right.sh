@@ -25,7 +25,7 @@ if wanted right; then
         "${CC:-cc}" $way -fno-optimize-sibling-calls -DLIBRARY -shared -fPIC -Wl,-soname,libtrees.so.2 -o libtrees.so.2 trees.c -pthread
         "${CC:-cc}" -g -o trees trees.c ./libtrees.so.2 -Wl,-rpath,"$work" -pthread
         is_last "it is counted ($way)" "nothing to report; 1 known of libtrees.so" ""
-        grep -q '^record: not clean: trees: line [0-9]*: a second lock of the type is allowed$' recorded.err && ! grep -q 'matched nothing' recorded.err
+        grep -q '^record: not clean: trees: what was reported is silenced$' recorded.err && ! grep -q 'matched nothing' recorded.err
         tell right "a run isn't called clean for it, and a line that names nothing isn't told ($way)" $?
         is_last "another report is told beside it ($way)" "1 report, 1 known of libtrees.so, 0 circles, 1 process" own
         is_last "what isn't in the function is told ($way)" "1 report, 0 circles, 1 process" moves

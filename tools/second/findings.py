@@ -63,7 +63,7 @@ def fields(line):
     read = numbers([digits for digits in at if digits is not None], [b for d, b in zip(at, bounds) if d is not None])
     if read is None:
         return None
-    words = [group.decode() for place, group in enumerate(match.groups(), 1)
+    words = [group.decode("latin-1") for place, group in enumerate(match.groups(), 1)
              if group is not None and place not in match.re.groupindex.values()]
     return word, read, words
 

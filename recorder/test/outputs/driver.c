@@ -7,9 +7,12 @@
  *   process NUMBER NAME               a further process; what follows is of it
  *   thread NUMBER NAME MAKER SITE
  *   frames FUNCTION SITE ..           a stack; stacks have numbers from 1 on; a function `-` isn't known
- *   spot SITE FRAMES THREAD           a place of the trace, @:1 and so on
+ *   spot SITE FRAMES THREAD           a place; places have numbers from 1 on
  *   alias TYPE FUNCTIONS
- *   told LINE, silenced LINE          of the verifier, where an ignore file is followed, and where it isn't
+ *   report HEAD                       of the verifier: a reversal, a duplicate, or something else, by its first letter
+ *   lock NAME TYPE CLASS SPOT         a lock of it, at the place of that number
+ *   step FROM TO SPOT                 a step of its established order
+ *   silenced                          the reports that follow are silenced, up to the end of the process
  *   waits HEAD, wait SEAT HOLDER LOCK TEXT PLACE, hold SEAT LOCK TEXT PLACE   a circle, a line of it (HOLDER 0: the thread itself)
  *   order FROM TO SITE, reversal FROM TO SITE, broken FROM TO SITE
  */
@@ -25,9 +28,7 @@
 enum { FIELDS = 40 };
 
 static struct findings findings;
-static char *told[2];
-static size_t told_length[2];
-static FILE *telling[2];
+static struct reports *telling; /* where reports are added */
 
 /* \xHH as its byte, in place. */
 static char *unescape(char *text)
@@ -56,31 +57,49 @@ static struct found *last(void)
     return &findings.found[findings.count - 1];
 }
 
-/* The reports of the process that ends here, as the verifier told them. */
-static void end_process(void)
+static void end_reports(struct reports *reports)
 {
-    for (int i = 0; i < 2; i++) {
-        if (!telling[i])
-            continue;
-        struct reports *reports = i == 0 ? &last()->reports : &last()->silenced;
-        fclose(telling[i]);
-        telling[i] = NULL;
-        reports->notes = i == 0 ? &last()->notes : &last()->silenced_notes;
-        struct reports circles = *reports;
-        *reports = (struct reports){.notes = reports->notes};
-        reports_read(reports, told[i], told_length[i]);
-        for (size_t j = 0; j < circles.count; j++)
-            ADD(reports->report, reports->count, reports->room) = circles.report[j];
-        free(circles.report);
-        free(told[i]);
-    }
+    for (size_t i = 0; i < reports->count; i++)
+        if (reports->report[i].last > 0)
+            report_names_silence(&reports->report[i], reports->notes);
 }
 
-static void tell_line(int which, const char *line)
+static void end_process(void)
 {
-    if (!telling[which])
-        telling[which] = open_memstream(&told[which], &told_length[which]);
-    fprintf(telling[which], "%s\n", line);
+    if (findings.count == 0)
+        return;
+    end_reports(&last()->reports);
+    end_reports(&last()->silenced);
+}
+
+static void begin_process(char **field)
+{
+    end_process();
+    struct found *found = findings_add(&findings, field[1], atol(field[0]));
+    found->reports.notes = found->silenced.notes = &found->notes;
+    found->notes.has_callers = true;
+    telling = &found->reports;
+}
+
+static void add_report(const char *head)
+{
+    enum report_kind kind = *head == 'l' ? REPORT_REVERSAL : *head == 'a' ? REPORT_DUPLICATE : REPORT_OTHER;
+    reports_add(telling, kind, head);
+}
+
+static void add_lock(struct notes *notes, char **field)
+{
+    ADD(notes->lock, notes->locks, notes->lock_room) =
+        (struct lock_name){.name = copy(field[0]), .type = copy(field[1]), .class = copy(field[2])};
+    reports_add_lock(telling, &notes->lock[notes->locks - 1], (size_t)atol(field[3]));
+}
+
+static void add_step(char **field)
+{
+    const struct report *report = &telling->report[telling->count - 1];
+    if (report->line[report->lines - 1].kind == LINE_LOCK)
+        reports_add_words(telling, "established order:");
+    reports_add_step(telling, field[0], field[1], (size_t)atol(field[2]));
 }
 
 static void add_frames(struct notes *notes, char **field, size_t fields)
@@ -94,7 +113,7 @@ static void add_frames(struct notes *notes, char **field, size_t fields)
 static void add_line(struct reports *reports, enum line_kind kind, char **field)
 {
     bool waits = kind == LINE_WAITS;
-    struct report_line *line = reports_add_line(reports, kind, field[waits ? 3 : 2], field[waits ? 4 : 3]);
+    struct report_line *line = reports_add_line(reports, kind, field[waits ? 3 : 2], 0, field[waits ? 4 : 3]);
     line->seat = (unsigned)atoi(field[0]);
     line->next = waits ? (unsigned)atoi(field[1]) : 0;
     line->name = copy(field[waits ? 2 : 1]);
@@ -111,7 +130,6 @@ static bool read_of_process(const char *word, char **field, size_t fields)
 {
     struct notes *notes = &last()->notes;
     struct reports *reports = &last()->reports;
-    reports->notes = notes;
     if (!strcmp(word, "thread"))
         ADD(notes->event, notes->events, notes->event_room) = (struct event){.kind = EVENT_THREAD,
                                                                              .thread = atol(field[0]),
@@ -126,8 +144,14 @@ static bool read_of_process(const char *word, char **field, size_t fields)
     else if (!strcmp(word, "alias"))
         ADD(notes->alias, notes->aliases, notes->alias_room) =
             (struct alias){.type = copy(field[0]), .by_lines = copy(field[0]), .functions = copy(field[1])};
-    else if (!strcmp(word, "told") || !strcmp(word, "silenced"))
-        tell_line(*word == 's', field[0]);
+    else if (!strcmp(word, "report"))
+        add_report(field[0]);
+    else if (!strcmp(word, "lock"))
+        add_lock(notes, field);
+    else if (!strcmp(word, "step"))
+        add_step(field);
+    else if (!strcmp(word, "silenced"))
+        telling = &last()->silenced;
     else if (!strcmp(word, "waits"))
         reports_add(reports, *field[0] == 'c' ? REPORT_CIRCLE : REPORT_SELF, field[0]);
     else if (!strcmp(word, "wait") || !strcmp(word, "hold"))
@@ -157,10 +181,9 @@ static bool read_line(const char *word, char **field, size_t fields)
         findings.built = atol(field[0]);
     else if (!strcmp(word, "say"))
         findings_tell(&findings, 0, field[0]);
-    else if (!strcmp(word, "process")) {
-        end_process();
-        findings_add(&findings, field[1], atol(field[0]));
-    } else
+    else if (!strcmp(word, "process"))
+        begin_process(field);
+    else
         return findings.count > 0 && read_of_process(word, field, fields);
     return true;
 }
