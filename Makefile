@@ -3,6 +3,7 @@
 # make check                 the gate: every proof and every test, two hours and a quarter on four processors
 # make test-recorder NAME=.. the recorder's tests of these names, else all, in 15 minutes; `make` comes first
 # make install PREFIX=..     puts all under a folder, from where it works without this one
+# make format                lays out the crates and the C as they are to be
 # make dist                  makes a tar of that, which needs neither Rattle nor a compiler
 # The last two prove and build the program first, where that wasn't done, and take libwitness where it stands built; else a
 # line says how that is.
@@ -21,10 +22,13 @@ check:
 test-recorder:
 	@recorder/test/run $(NAME)
 
+format:
+	@tools/format
+
 install:
 	@tools/install "$(DESTDIR)$(PREFIX)"
 
 dist:
 	@tools/pack "$(VERSION)"
 
-.PHONY: all check test-recorder install dist
+.PHONY: all check format test-recorder install dist

@@ -48,7 +48,8 @@ static uint32_t made_as(struct question *question, const struct lock *lock)
 {
     char name[NAME_ROOM], of[NAME_ROOM];
     name_any(name, of, lock);
-    return made(question, name, of, lock->type->class == RWLOCK || lock->type->class == TOLD_RWLOCK ? WIT_RW : WIT_SLEEP_MUTEX, lock->recursive);
+    return made(question, name, of,
+        lock->type->class == RWLOCK || lock->type->class == TOLD_RWLOCK ? WIT_RW : WIT_SLEEP_MUTEX, lock->recursive);
 }
 
 /* The seat gets what the thread holds, oldest first. False where that can't be told. */
@@ -63,7 +64,8 @@ static bool holds(struct question *question, const struct thread *thread, const 
         if (lock == 0 || file < 0)
             return false;
         for (uint32_t count = 0; count < held->count; count++)
-            if (wit_note_try(&question->place, 1, lock, held->mode == EXCLUSIVE, (uint16_t)file, place_line(held->place)) < 0)
+            if (wit_note_try(&question->place, 1, lock, held->mode == EXCLUSIVE, (uint16_t)file, place_line(held->place))
+                < 0)
                 return false;
         if (held->lock == asked)
             question->lock = lock;
@@ -125,7 +127,7 @@ static void ask(struct question *question, const struct thread *thread, const vo
 static void ask_inside(void *argument)
 {
     struct question *question = argument;
-    ENTERS_OR(return);
+    ENTERS_OR return;
     ask(question, &self, question->address);
 }
 

@@ -123,7 +123,7 @@ void judge_waits(void *argument)
     uint16_t seats[SEATS];
     if (action == UNWATCHED)
         return;
-    ENTERS_OR(return);
+    ENTERS_OR return;
     int64_t count = request->again ? 0 : circle_of(request->thread, seats);
     if (request->again_refused)
         keep_itself(request);

@@ -80,8 +80,8 @@ static int64_t made_with(const struct lists *lists)
 {
     static const struct wit_sizes sizes = {SEATS, TYPES, LOCKS, CHUNKS, JUDGED_LOG};
     uint64_t refused = 0;
-    int64_t answer = wit_new(&place, &sizes, true, lists->lists, lists->lists_count, lists->pairs, lists->pairs_count,
-        &refused);
+    int64_t answer =
+        wit_new(&place, &sizes, true, lists->lists, lists->lists_count, lists->pairs, lists->pairs_count, &refused);
     if (answer >= 0 || refused == 0 || answer == WIT_OUT_OF_MEMORY)
         return answer;
     refused_list = refused;
@@ -186,8 +186,7 @@ void judge_asked(const struct thread *thread, uint32_t lock, uint8_t mode, uint3
     if (!file)
         return;
     deadlock_asked(thread, at);
-    took(wit_check(&place, (uint16_t)thread->seat, lock, mode == EXCLUSIVE, WIT_OP_NEWORDER, file,
-        place_line(at)));
+    took(wit_check(&place, (uint16_t)thread->seat, lock, mode == EXCLUSIVE, WIT_OP_NEWORDER, file, place_line(at)));
 }
 
 void judge_tried(const struct thread *thread, uint32_t lock, uint8_t mode, uint32_t at)

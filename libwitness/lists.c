@@ -129,7 +129,8 @@ void lists_begin(void)
         number++;
         if (!line_read(line))
             tell_line("%s: line %u isn't order CLASS \"TYPE\" CLASS \"TYPE\" .., bless \"TYPE\" \"TYPE\", \"TYPE\" or "
-                "\"TYPE\" \"TYPE\": it is passed over", path, number);
+                      "\"TYPE\" \"TYPE\": it is passed over",
+                path, number);
         line = end ? end + 1 : NULL;
     }
 }

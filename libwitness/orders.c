@@ -26,8 +26,7 @@ static bool defines(const struct thread *thread, const struct wanted *order)
         return false;
     if (!order->number[FIRST] || !order->number[SECOND])
         return true;
-    int64_t answer = wit_define_order(place, (uint16_t)thread->seat, order->number[FIRST],
-        order->number[SECOND]);
+    int64_t answer = wit_define_order(place, (uint16_t)thread->seat, order->number[FIRST], order->number[SECOND]);
     if (answer < 0)
         judge_has_news(answer == -21 ? NEWS_ONE_TYPE : answer == -20 ? NEWS_AGAINST : NEWS_UNDEFINED);
     return answer >= 0;

@@ -63,7 +63,8 @@ static int put_words(char *to, size_t room, const char *words)
         number = NULL;
     after += type;
     return snprintf(to, room, "%.*s\"%s%.*s%s%s", (int)(name + type - words), words, number ? " lock " : "",
-        number ? (int)(end - number) : 0, number ? number : "", *after == ')' ? "" : " (", after + (*after == ')' ? 1 : 2));
+        number ? (int)(end - number) : 0, number ? number : "", *after == ')' ? "" : " (",
+        after + (*after == ')' ? 1 : 2));
 }
 
 /* The line with another place, if it has one that is told otherwise. False where it stays as it is. */

@@ -83,14 +83,14 @@ enum {
     WIT_IS_RECURSED = 8
 };
 
-enum { WIT_SLEEP_MUTEX = 0, WIT_SPIN_MUTEX = 1, WIT_RW = 2, WIT_SX = 3 };    /* classes */
-enum { WIT_WATCH_OFF = -1, WIT_WATCH_QUIET = 0, WIT_WATCH_ON = 1 };          /* levels */
+enum { WIT_SLEEP_MUTEX = 0, WIT_SPIN_MUTEX = 1, WIT_RW = 2, WIT_SX = 3 }; /* classes */
+enum { WIT_WATCH_OFF = -1, WIT_WATCH_QUIET = 0, WIT_WATCH_ON = 1 };       /* levels */
 /* Bits that have no name here are ignored, but in an assertion, which is WIT_INVALID with them. */
-enum { WIT_LOCK_RECURSABLE = 1, WIT_LOCK_DUPOK = 2 };                        /* flags of a lock */
-enum { WIT_OP_NEWORDER = 1, WIT_OP_DUPOK = 2, WIT_OP_FRESH = 4 };            /* of a request */
-enum { WIT_LA_UNLOCKED = 1, WIT_LA_LOCKED = 2, WIT_LA_SLOCKED = 4 };         /* of an assertion */
+enum { WIT_LOCK_RECURSABLE = 1, WIT_LOCK_DUPOK = 2 };                /* flags of a lock */
+enum { WIT_OP_NEWORDER = 1, WIT_OP_DUPOK = 2, WIT_OP_FRESH = 4 };    /* of a request */
+enum { WIT_LA_UNLOCKED = 1, WIT_LA_LOCKED = 2, WIT_LA_SLOCKED = 4 }; /* of an assertion */
 enum { WIT_LA_XLOCKED = 8, WIT_LA_RECURSED = 16, WIT_LA_NOTRECURSED = 32 };
-enum { WIT_WARN_GIANTOK = 1, WIT_WARN_SLEEPOK = 2 };                         /* of a warning */
+enum { WIT_WARN_GIANTOK = 1, WIT_WARN_SLEEPOK = 2 }; /* of a warning */
 
 /* A type of a static list, and such a list: its types are acquired in that sequence. */
 struct wit_listed {
@@ -145,8 +145,7 @@ int64_t wit_give_up(struct wit_place *place, uint16_t seat, uint32_t lock);
 int64_t wit_unlock(struct wit_place *place, uint16_t seat, uint32_t lock, bool exclusive);
 
 /* The seat has a lock for which it didn't wait: as wit_note. */
-int64_t wit_note_try(struct wit_place *place, uint16_t seat, uint32_t lock, bool exclusive, uint16_t file,
-    uint32_t line);
+int64_t wit_note_try(struct wit_place *place, uint16_t seat, uint32_t lock, bool exclusive, uint16_t file, uint32_t line);
 
 /* What it holds shared it holds exclusively, and the other way round: WIT_DONE or WIT_IGNORED. */
 int64_t wit_upgrade(struct wit_place *place, uint16_t seat, uint32_t lock);

@@ -55,7 +55,10 @@ static inline bool code_words_read(struct code_words *words, const char *site)
         bool has_function = after && after < end && *after == '(' && end[-1] == ')';
         if (!after || (after != end && !has_function))
             continue;
-        *words = (struct code_words){.object = site, .function = "", .within = "", .object_length = (size_t)(at - site),
+        *words = (struct code_words){.object = site,
+            .function = "",
+            .within = "",
+            .object_length = (size_t)(at - site),
             .offset = strtoull(at + 3, NULL, 16)};
         if (has_function)
             code_function_read(words, after + 1, end - 1);
@@ -69,8 +72,7 @@ static inline size_t code_object_told(const struct code_words *words)
 {
     const char *object = words->object;
     for (size_t at = 1; at + 4 < words->object_length; at++)
-        if (memcmp(object + at, ".so.", 4) == 0
-            && at + 4 + strspn(object + at + 4, ".0123456789") >= words->object_length)
+        if (memcmp(object + at, ".so.", 4) == 0 && at + 4 + strspn(object + at + 4, ".0123456789") >= words->object_length)
             return at + 3;
     return words->object_length;
 }

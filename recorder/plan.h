@@ -56,7 +56,7 @@ struct plan {
     uint32_t pause_ms, back_ms; /* the longest pause before a second lock, and before a first one */
     uint32_t noise_ms;          /* the longest before any second lock, at random; 0 for none */
     struct plan_order order[PLAN_ORDERS];
-    _Atomic uint32_t met;       /* threads stood at the places crosswise so often */
+    _Atomic uint32_t met; /* threads stood at the places crosswise so often */
     /*
      * Who looks on from outside can see that all threads of a process sleep: in waits without a time limit, or on a word of
      * these addresses, where they pause. Then he writes how many pauses had begun before he looked.

@@ -52,8 +52,7 @@ void witness_recorder_released(const volatile void *lock) __attribute__((weak));
 void witness_recorder_destroyed(const volatile void *lock) __attribute__((weak));
 const void *witness_recorder_handle(void) __attribute__((weak));
 unsigned witness_recorder_place(const char *file, unsigned line, const char *function) __attribute__((weak));
-void witness_recorder_made_at(const volatile void *lock, int how, unsigned place, const char *type)
-    __attribute__((weak));
+void witness_recorder_made_at(const volatile void *lock, int how, unsigned place, const char *type) __attribute__((weak));
 void witness_recorder_asked_at(const volatile void *lock, int how, unsigned place) __attribute__((weak));
 void witness_recorder_tried_at(const volatile void *lock, int how, unsigned place) __attribute__((weak));
 void witness_recorder_released_at(const volatile void *lock, unsigned place) __attribute__((weak));
@@ -65,24 +64,24 @@ void witness_recorder_callers(const unsigned *places, unsigned count) __attribut
 #endif
 
 #define witness_handle() (witness_recorder_handle ? witness_recorder_handle() : (const void *)0)
-#define witness_made_at(lock, how, file, line, function, type)                                                     \
-    (witness_recorder_made_at                                                                                      \
-            ? witness_recorder_made_at((lock), (how), witness_recorder_place((file), (line), (function)), (type)) \
+#define witness_made_at(lock, how, file, line, function, type)                                                         \
+    (witness_recorder_made_at                                                                                          \
+            ? witness_recorder_made_at((lock), (how), witness_recorder_place((file), (line), (function)), (type))      \
             : (void)0)
-#define witness_asked_at(lock, how, file, line, function)                                                          \
-    (witness_recorder_asked_at                                                                                     \
-            ? witness_recorder_asked_at((lock), (how), witness_recorder_place((file), (line), (function)))        \
+#define witness_asked_at(lock, how, file, line, function)                                                              \
+    (witness_recorder_asked_at                                                                                         \
+            ? witness_recorder_asked_at((lock), (how), witness_recorder_place((file), (line), (function)))             \
             : (void)0)
-#define witness_tried_at(lock, how, file, line, function)                                                          \
-    (witness_recorder_tried_at                                                                                     \
-            ? witness_recorder_tried_at((lock), (how), witness_recorder_place((file), (line), (function)))        \
+#define witness_tried_at(lock, how, file, line, function)                                                              \
+    (witness_recorder_tried_at                                                                                         \
+            ? witness_recorder_tried_at((lock), (how), witness_recorder_place((file), (line), (function)))             \
             : (void)0)
-#define witness_released_at(lock, file, line, function)                                                            \
-    (witness_recorder_released_at                                                                                  \
-            ? witness_recorder_released_at((lock), witness_recorder_place((file), (line), (function)))            \
+#define witness_released_at(lock, file, line, function)                                                                \
+    (witness_recorder_released_at                                                                                      \
+            ? witness_recorder_released_at((lock), witness_recorder_place((file), (line), (function)))                 \
             : (void)0)
-#define witness_makes_at(file, line, function)                                                                     \
-    (witness_recorder_makes_at ? witness_recorder_makes_at(witness_recorder_place((file), (line), (function)))    \
+#define witness_makes_at(file, line, function)                                                                         \
+    (witness_recorder_makes_at ? witness_recorder_makes_at(witness_recorder_place((file), (line), (function)))         \
                                : (void)0)
 
 #ifdef WITNESS_BY_NAME

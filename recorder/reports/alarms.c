@@ -22,8 +22,8 @@ bool alarm_has_word(const struct alarm *alarm)
 /* What isn't known may be the worst of what it stands for. */
 int alarm_mildness(const struct alarm *alarm)
 {
-    static const int steps[] = {
-        [GRADE_THREADS] = 0, [GRADE_UNKNOWN] = 1, [GRADE_NONE] = 2, [GRADE_ONE_THREAD] = 3, [GRADE_TYPES] = 4};
+    static const int steps[] =
+        {[GRADE_THREADS] = 0, [GRADE_UNKNOWN] = 1, [GRADE_NONE] = 2, [GRADE_ONE_THREAD] = 3, [GRADE_TYPES] = 4};
     return 8 * steps[alarm->grade] + words(alarm);
 }
 
@@ -47,11 +47,12 @@ static void write_threads(FILE *to, const struct alarm *alarm)
 /* What keeps the orders that are closest to a deadlock from it. */
 static void write_mildness(FILE *to, const struct alarm *alarm)
 {
-    static const char *const apart[] = {[APART_IN_TIME] = "one thread had ended, or wasn't made yet, when the other did so",
-                                        [APART_AT_FIRST] = "both were done before there was another thread",
-                                        [APART_ONE_AT_FIRST] = "one was done before there was another thread",
-                                        [APART_BY_WAITS] = "each one had its lock when its wait for a condition began",
-                                        [APART_BY_LOCK] = "one took its lock under the one that the other kept in its wait"};
+    static const char *const apart[] = {
+        [APART_IN_TIME] = "one thread had ended, or wasn't made yet, when the other did so",
+        [APART_AT_FIRST] = "both were done before there was another thread",
+        [APART_ONE_AT_FIRST] = "one was done before there was another thread",
+        [APART_BY_WAITS] = "each one had its lock when its wait for a condition began",
+        [APART_BY_LOCK] = "one took its lock under the one that the other kept in its wait"};
     if (alarm->gate)
         fprintf(to, "; gate: each time \"%s\" was held", alarm->gate);
     if (alarm->readers)
@@ -64,8 +65,7 @@ static void write_mildness(FILE *to, const struct alarm *alarm)
 
 static void write_unknown(FILE *to, enum unknown unknown)
 {
-    static const char *const why[] = {
-        [UNKNOWN_MISSING] = "there were more orders of such locks than are kept",
+    static const char *const why[] = {[UNKNOWN_MISSING] = "there were more orders of such locks than are kept",
         [UNKNOWN_UNASKED] = "the verifier isn't built, and a trial of it isn't asked; make builds it",
         [UNKNOWN_UNANSWERED] = "the verifier didn't answer; a smaller part of the work may show it"};
     fprintf(to, "single locks: not known, %s", why[unknown]);
@@ -85,8 +85,11 @@ static void write_elsewhere(FILE *to, const struct alarm *alarm)
 static void write_alarm(FILE *to, const struct alarm *alarm)
 {
     switch (alarm->grade) {
-    case GRADE_NONE: return;
-    case GRADE_UNKNOWN: write_unknown(to, alarm->unknown); return;
+    case GRADE_NONE:
+        return;
+    case GRADE_UNKNOWN:
+        write_unknown(to, alarm->unknown);
+        return;
     case GRADE_TYPES:
         fputs(alarm->of_one_type ? "single locks: one order: none of these locks was ever taken the other way round"
                                  : "single locks: one order only for any two locks: types alone",
@@ -95,7 +98,7 @@ static void write_alarm(FILE *to, const struct alarm *alarm)
     case GRADE_ONE_THREAD:
     case GRADE_THREADS:
         fprintf(to, "single locks: %s, the same locks, ",
-            alarm->is_smaller       ? "all orders of a smaller circle of these types"
+            alarm->is_smaller      ? "all orders of a smaller circle of these types"
                 : alarm->steps > 2 ? "all orders of the circle"
                                    : "both orders");
         write_threads(to, alarm);
@@ -161,6 +164,7 @@ bool alarm_counts(const struct alarms_wanted *wanted, const struct alarm *alarm)
 {
     if (alarm->grade <= GRADE_UNKNOWN)
         return true;
-    return alarm->grade >= wanted->least && !(wanted->not_gated && alarm->gate) && !(wanted->not_readers && alarm->readers)
-        && !(wanted->not_timed && alarm->timed) && !(wanted->not_apart && alarm->apart);
+    return alarm->grade >= wanted->least && !(wanted->not_gated && alarm->gate)
+        && !(wanted->not_readers && alarm->readers) && !(wanted->not_timed && alarm->timed)
+        && !(wanted->not_apart && alarm->apart);
 }

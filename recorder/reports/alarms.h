@@ -12,7 +12,7 @@ enum { ALARM_THREADS = 16 };
 
 struct alarm {
     enum grade {
-        GRADE_NONE,       /* the file tells of no single locks, or it is no report of an order */
+        GRADE_NONE, /* the file tells of no single locks, or it is no report of an order */
         GRADE_UNKNOWN,
         GRADE_TYPES,      /* no single locks were taken both ways */
         GRADE_ONE_THREAD, /* single locks were, but two of the orders by one thread alone, which can't wait in both */
@@ -36,11 +36,11 @@ struct alarm {
     bool timed;       /* one was asked for with a time limit */
     enum apart {
         NOT_APART,
-        APART_IN_TIME,  /* one thread had ended, or wasn't made yet, when the other did so */
-        APART_AT_FIRST, /* all orders were made when there was no other thread, and not again */
+        APART_IN_TIME,      /* one thread had ended, or wasn't made yet, when the other did so */
+        APART_AT_FIRST,     /* all orders were made when there was no other thread, and not again */
         APART_ONE_AT_FIRST, /* one of them was, whoever made the others */
-        APART_BY_WAITS, /* each asks as a wait for a condition ends, so it had its lock when that began */
-        APART_BY_LOCK,  /* one asks so, and kept the lock under which the other took its own */
+        APART_BY_WAITS,     /* each asks as a wait for a condition ends, so it had its lock when that began */
+        APART_BY_LOCK,      /* one asks so, and kept the lock under which the other took its own */
     } apart;
     /* Of two locks of one type: where the other orders of the circle were taken. Texts of the notes, each once. */
     const char *elsewhere[ALARM_THREADS];

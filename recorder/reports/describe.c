@@ -8,8 +8,12 @@
 #include "allocation.h"
 
 const char *const kinds[KINDS] = {
-    [REPORT_REVERSAL] = "reversal", [REPORT_DUPLICATE] = "duplicate", [REPORT_CIRCLE] = "circle",
-    [REPORT_SELF] = "self",         [REPORT_ERROR] = "error",         [REPORT_OTHER] = "other",
+    [REPORT_REVERSAL] = "reversal",
+    [REPORT_DUPLICATE] = "duplicate",
+    [REPORT_CIRCLE] = "circle",
+    [REPORT_SELF] = "self",
+    [REPORT_ERROR] = "error",
+    [REPORT_OTHER] = "other",
 };
 
 int is_request(const struct report *report, const struct report_line *line)
@@ -46,7 +50,7 @@ char *describe(const struct report *report)
     switch (report->kind) {
     case REPORT_REVERSAL:
         return say_text("\"%s\" is held, \"%s\" is asked for", type_at(report, report->first),
-                        type_at(report, report->last));
+            type_at(report, report->last));
     case REPORT_DUPLICATE:
         return say_text("One \"%s\" is held, another is asked for", type_at(report, report->last));
     case REPORT_CIRCLE:
@@ -55,7 +59,7 @@ char *describe(const struct report *report)
         return say_text("A thread waits for \"%s\", which it holds", named(report, LINE_WAITS));
     case REPORT_ERROR:
         return say_text("%c%s \"%s\"", toupper((unsigned char)*report->line[0].text), report->line[0].text + 1,
-                        named(report, LINE_HOLDS));
+            named(report, LINE_HOLDS));
     default:
         return copy(report->lines > 0 && *report->line[0].text ? report->line[0].text : "The recording");
     }
@@ -71,9 +75,10 @@ static const char *question(enum grade grade, bool is_reversal)
                "they deadlock.";
     if (grade == GRADE_TYPES)
         return "No single locks were taken both ways: ask whether another run can take them the other way round.";
-    return is_reversal ? "Ask first whether these places can run in two threads at once: if they can, each thread may come "
-                         "to wait for the other for good."
-                       : NULL;
+    return is_reversal
+        ? "Ask first whether these places can run in two threads at once: if they can, each thread may come "
+          "to wait for the other for good."
+        : NULL;
 }
 
 /* As question; what kept the orders of the same locks apart in this run comes before all else. */
@@ -82,7 +87,8 @@ static char *first_advice(const struct alarm *alarm, bool is_reversal)
     bool is_same = alarm->grade == GRADE_THREADS || alarm->grade == GRADE_ONE_THREAD;
     const char *asked = question(alarm->grade, is_reversal);
     if (is_same && alarm->gate)
-        return say_text("In this run \"%s\" kept the two orders apart: ask whether all ways to them hold it.", alarm->gate);
+        return say_text("In this run \"%s\" kept the two orders apart: ask whether all ways to them hold it.",
+            alarm->gate);
     if (is_same && alarm->apart != NOT_APART)
         return copy("In this run the two orders couldn't meet: ask whether the program keeps to that.");
     if (is_same && alarm->readers)
@@ -97,7 +103,7 @@ static char *advice_on_reversal(const char *first, const char *last, size_t numb
     if (number == 1)
         return say_text("Then change one of them: take \"%s\" before \"%s\" here too, or release \"%s\" before \"%s\" "
                         "is asked for.",
-                        last, first, first, last);
+            last, first, first, last);
     return copy("If they never run at once, or a third lock is always held around both, put the line below into the "
                 "file of --ignore.");
 }
@@ -107,7 +113,7 @@ static char *advice_on_duplicate(const char *type, size_t number)
     if (number == 0)
         return say_text("Ask first in which order another thread may take two locks of \"%s\": the other way round is a "
                         "deadlock, and no order of types shows it.",
-                        type);
+            type);
     if (number == 1)
         return copy("If nothing rules that, take them in an order of their own, by their addresses say, or make them in "
                     "two places, which gives them two types.");
@@ -120,9 +126,8 @@ static char *advice_on_circle(size_t number)
         return copy("Unless one of them waits for a limited time, none goes on: this is a deadlock that has happened, "
                     "not one that may.");
     if (number == 1)
-        return copy(
-            "Let one of them take its locks in the order of the others, or release what it holds before it asks "
-            "for the next.");
+        return copy("Let one of them take its locks in the order of the others, or release what it holds before it asks "
+                    "for the next.");
     return copy("Begin with the reports that name the same locks: they say where each order comes from.");
 }
 
@@ -130,11 +135,10 @@ static char *advice_on_self(const char *lock, size_t number)
 {
     if (number == 0)
         return say_text("The thread holds \"%s\" and asks for it again: unless its wait is limited, it never ends.",
-                        lock);
+            lock);
     if (number == 1)
-        return copy(
-            "Release it before the call, or part the function into one that locks and one that expects the lock "
-            "to be held.");
+        return copy("Release it before the call, or part the function into one that locks and one that expects the lock "
+                    "to be held.");
     return copy("If the second acquisition is meant, make the mutex a recursive one.");
 }
 
@@ -151,7 +155,8 @@ static char *advice_on_error(const char *lock, size_t number)
 char *advice(const struct report *report, const struct alarm *alarm, size_t number)
 {
     bool is_reversal = report->kind == REPORT_REVERSAL;
-    char *first = number == 0 && (is_reversal || report->kind == REPORT_DUPLICATE) ? first_advice(alarm, is_reversal) : NULL;
+    char *first =
+        number == 0 && (is_reversal || report->kind == REPORT_DUPLICATE) ? first_advice(alarm, is_reversal) : NULL;
     if (first)
         return first;
     switch (report->kind) {

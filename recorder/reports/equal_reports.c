@@ -64,8 +64,8 @@ static void tell_others(struct run *run, const struct told *told)
     if (told->others > NAMED_MOST)
         fprintf(to, " and %zu others", told->others - NAMED_MOST);
     fclose(to);
-    say(&run->output, "the report of %s of process %ld is one of %zu more: %s", told->about, told->process, told->others,
-        text);
+    say(&run->output, "the report of %s of process %ld is one of %zu more: %s", told->about, told->process,
+        told->others, text);
     free(text);
 }
 

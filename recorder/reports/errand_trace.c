@@ -40,7 +40,10 @@ bool errand_trace_adds(struct errand_trace *trace, const struct single *single, 
     const struct single_telling *telling)
 {
     const struct single_errand *errand = &single->errand[telling->errand];
-    struct errand_seat seat = {.circle = circle, .fact = fact, .telling = telling, .step = &single->step[errand->first],
+    struct errand_seat seat = {.circle = circle,
+        .fact = fact,
+        .telling = telling,
+        .step = &single->step[errand->first],
         .steps = errand->steps};
     if (errand->is_cut || seat.steps > ERRAND_STEPS || trace->locks + seat.steps >= ERRAND_LOCKS || !is_sound(&seat))
         return false;

@@ -36,8 +36,9 @@ uint32_t first_character(const char *text, size_t length, size_t *bytes)
         code = code << 6 | (byte & 0x3fu);
     }
     /* Longer than it has to be, half of a pair of UTF-16, or beyond all characters. */
-    if (is_good && ((needs == 3 && code < 0x800) || (needs == 4 && code < 0x10000) || code > 0x10ffff ||
-                    (code >= 0xd800 && code <= 0xdfff)))
+    if (is_good
+        && ((needs == 3 && code < 0x800) || (needs == 4 && code < 0x10000) || code > 0x10ffff
+            || (code >= 0xd800 && code <= 0xdfff)))
         is_good = false;
     *bytes = is_good ? needs : 1;
     return is_good ? code : REPLACEMENT;
@@ -53,7 +54,7 @@ static void put_character(FILE *to, uint32_t code)
         fprintf(to, "%c%c%c", (int)(0xe0 | code >> 12), (int)(0x80 | (code >> 6 & 0x3f)), (int)(0x80 | (code & 0x3f)));
     } else {
         fprintf(to, "%c%c%c%c", (int)(0xf0 | code >> 18), (int)(0x80 | (code >> 12 & 0x3f)),
-                (int)(0x80 | (code >> 6 & 0x3f)), (int)(0x80 | (code & 0x3f)));
+            (int)(0x80 | (code >> 6 & 0x3f)), (int)(0x80 | (code & 0x3f)));
     }
 }
 

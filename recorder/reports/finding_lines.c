@@ -55,8 +55,7 @@ static void read_path(const struct reading *reading, const struct value *finding
     if (step)
         reports_add_words(reading->reports, "established order:");
     for (; step; step = step->next)
-        reports_add_step(
-            reading->reports, type_of(reading, step, "from"), type_of(reading, step, "to"), spot_of(step));
+        reports_add_step(reading->reports, type_of(reading, step, "from"), type_of(reading, step, "to"), spot_of(step));
 }
 
 /* The first line of a report. No type of a recording is sleepable, or called Giant. */
@@ -65,8 +64,8 @@ static struct report *add_head(const struct reading *reading, const struct value
     if (strcmp(kind, "reversal") == 0)
         return reports_add(reading->reports, REPORT_REVERSAL, "lock order reversal:");
     unsigned asked = small_number(value_of(finding, "asked"), "lock");
-    char *head = say_text(
-        "acquiring duplicate lock of same type: \"%s\"", notes_lock(reading->reports->notes, asked)->type);
+    char *head =
+        say_text("acquiring duplicate lock of same type: \"%s\"", notes_lock(reading->reports->notes, asked)->type);
     struct report *report = reports_add(reading->reports, REPORT_DUPLICATE, head);
     free(head);
     return report;
@@ -99,8 +98,8 @@ static void read_bad(struct reading *reading, const struct value *finding)
 static void read_order(struct reading *reading, const struct value *finding)
 {
     struct state *state = reading->state;
-    ADD(state->order, state->orders, state->order_room) = (struct known_order){
-        copy(type_of(reading, finding, "from")), copy(type_of(reading, finding, "to")), spot_of(finding)};
+    ADD(state->order, state->orders, state->order_room) = (struct known_order){copy(type_of(reading, finding, "from")),
+        copy(type_of(reading, finding, "to")), spot_of(finding)};
 }
 
 /* The seat that a line tells of, NULL of none; what was told before is of an earlier moment. */
@@ -162,8 +161,13 @@ static const struct {
     const char *finding;
     void (*reads)(struct reading *reading, const struct value *finding);
 } kinds[] = {
-    {"order", read_order}, {"report", read_report}, {"held", read_held}, {"asks", read_asks},
-    {"circle", read_circle}, {"clean", read_clean}, {"bad", read_bad},
+    {"order", read_order},
+    {"report", read_report},
+    {"held", read_held},
+    {"asks", read_asks},
+    {"circle", read_circle},
+    {"clean", read_clean},
+    {"bad", read_bad},
 };
 
 static void read_line(struct reading *reading, const struct value *finding)

@@ -132,8 +132,7 @@ static void grade(struct finding *finding, const struct alarm *alarm, const stru
     finding->single = alarm_text(alarm);
 }
 
-static void gather(struct findings *findings, const struct found *found, const struct reports *reports,
-                   bool is_silenced)
+static void gather(struct findings *findings, const struct found *found, const struct reports *reports, bool is_silenced)
 {
     for (size_t i = 0; i < reports->count; i++) {
         const struct report *report = &reports->report[i];

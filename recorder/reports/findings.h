@@ -22,7 +22,7 @@ struct found {
     struct reports reports;
     struct reports silenced; /* what isn't told: by the user's ignore file, or as right in a library */
     struct order_list orders;
-    char *picture;           /* of these, as SVG; NULL where none is drawn */
+    char *picture; /* of these, as SVG; NULL where none is drawn */
 };
 
 /* A report, told once for all processes that have it. */
@@ -30,35 +30,35 @@ struct finding {
     const struct found *found; /* the first of them */
     const struct report *report;
     bool is_silenced;
-    long *process;             /* their numbers */
+    long *process; /* their numbers */
     size_t processes, room;
-    char fingerprint[17];      /* the same where lines have moved, and after another run */
-    struct alarm alarm;        /* how much it is to be feared: the worst of what the processes say */
-    char *single;              /* what is said of that; an empty text where there is nothing */
+    char fingerprint[17];            /* the same where lines have moved, and after another run */
+    struct alarm alarm;              /* how much it is to be feared: the worst of what the processes say */
+    char *single;                    /* what is said of that; an empty text where there is nothing */
     const struct schedule *schedule; /* of that process; NULL where there is none */
-    bool counts;               /* for the status of `record`, by --alarms */
-    struct confirmed *confirmed; /* what came of steered runs; NULL where none was to be made */
-    char *picture;             /* of its orders, as SVG; NULL where none is drawn */
+    bool counts;                     /* for the status of `record`, by --alarms */
+    struct confirmed *confirmed;     /* what came of steered runs; NULL where none was to be made */
+    char *picture;                   /* of its orders, as SVG; NULL where none is drawn */
 };
 
 struct findings {
-    const char *command;   /* that tells it; NULL is `record` */
-    const char *version;   /* of `record`; NULL where that isn't known */
-    const char *kit;       /* by which the verifier is proved; NULL where that isn't known */
-    const char *words;     /* the program with its words, as it was run; NULL where that isn't known */
-    const char *program;   /* its name */
-    const char *directory; /* where names of source files begin that aren't absolute */
-    const char *ignore;    /* the user's ignore file; NULL where there is none */
+    const char *command;         /* that tells it; NULL is `record` */
+    const char *version;         /* of `record`; NULL where that isn't known */
+    const char *kit;             /* by which the verifier is proved; NULL where that isn't known */
+    const char *words;           /* the program with its words, as it was run; NULL where that isn't known */
+    const char *program;         /* its name */
+    const char *directory;       /* where names of source files begin that aren't absolute */
+    const char *ignore;          /* the user's ignore file; NULL where there is none */
     struct alarms_wanted alarms; /* which reports count */
-    time_t built;          /* when the program was; 0 where that isn't known */
-    time_t ended;          /* when the recording was told of */
-    bool has_failed;       /* of a process that was recorded nothing is known */
+    time_t built;                /* when the program was; 0 where that isn't known */
+    time_t ended;                /* when the recording was told of */
+    bool has_failed;             /* of a process that was recorded nothing is known */
     struct found *found;
     size_t count, found_room;
-    char **told;           /* what was told besides the reports: lines without `record: ` */
+    char **told; /* what was told besides the reports: lines without `record: ` */
     size_t tolds, told_room;
-    char *summary;         /* the last of them */
-    bool is_gathered;      /* the list is there */
+    char *summary;    /* the last of them */
+    bool is_gathered; /* the list is there */
     struct finding *finding;
     size_t findings, finding_room;
 };

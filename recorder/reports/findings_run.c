@@ -16,7 +16,8 @@
 
 bool findings_are_wanted(const struct settings *settings)
 {
-    return is_asked(settings->html) || is_asked(settings->sarif) || is_asked(settings->json) || confirm_is_wanted(settings);
+    return is_asked(settings->html) || is_asked(settings->sarif) || is_asked(settings->json)
+        || confirm_is_wanted(settings);
 }
 
 /* Lines that are told, each by itself. */

@@ -11,16 +11,16 @@
 struct going_verdict {
     struct verdict verdict;
     bool is_begun, has_ended;
-    char *lines;               /* all that have come */
+    char *lines; /* all that have come */
     size_t length, room;
-    size_t at;                 /* so many of them have come again */
-    size_t fed;                /* so many of them the verifier has */
+    size_t at;  /* so many of them have come again */
+    size_t fed; /* so many of them the verifier has */
     FILE *to;
-    char *fresh;               /* what it tells since the last look */
+    char *fresh; /* what it tells since the last look */
     size_t fresh_length;
-    char *kept;                /* what it told before of the lines themselves, and not of a moment */
+    char *kept; /* what it told before of the lines themselves, and not of a moment */
     size_t kept_length, kept_room;
-    int status;                /* once it has ended, as a shell says it */
+    int status; /* once it has ended, as a shell says it */
 };
 
 /* The lines come, all of them, as they are by now. */

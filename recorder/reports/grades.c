@@ -236,8 +236,7 @@ static enum apart waits_of(const struct question *question)
     return APART_BY_WAITS;
 }
 
-static void add_reason(struct alarm *alarm, const struct notes *notes, const struct question *question,
-    enum reason reason)
+static void add_reason(struct alarm *alarm, const struct notes *notes, const struct question *question, enum reason reason)
 {
     if (reason == REASON_GATE)
         alarm->gate = gate_of(notes, question);
@@ -308,8 +307,11 @@ static struct question *questions_of(struct reports *reports, size_t *count)
         if (!is_of_orders(&reports->report[i]))
             continue;
         facts_gather(&facts, &reports->report[i], &reports->notes->single);
-        question[(*count)++] = (struct question){.report = &reports->report[i], .fact = facts.fact, .facts = facts.count,
-            .types = facts.types, .only = REASONS};
+        question[(*count)++] = (struct question){.report = &reports->report[i],
+            .fact = facts.fact,
+            .facts = facts.count,
+            .types = facts.types,
+            .only = REASONS};
     }
     qsort(question, *count, sizeof *question, by_facts);
     return question;

@@ -200,10 +200,8 @@ static void write_schedule(struct objects *to, const struct schedule *schedule)
 /* What is known of the single locks of the types. */
 static void write_single(struct objects *to, const struct finding *finding)
 {
-    static const char *const grades[] = {[GRADE_UNKNOWN] = "unknown",
-                                         [GRADE_TYPES] = "types",
-                                         [GRADE_ONE_THREAD] = "thread",
-                                         [GRADE_THREADS] = "threads"};
+    static const char *const grades[] =
+        {[GRADE_UNKNOWN] = "unknown", [GRADE_TYPES] = "types", [GRADE_ONE_THREAD] = "thread", [GRADE_THREADS] = "threads"};
     const struct alarm *alarm = &finding->alarm;
     if (alarm->grade == GRADE_NONE) {
         object_text(to, "single", NULL);

@@ -15,7 +15,7 @@ struct objects {
 
 /* Within an object each value has a name; within a list, and at first, the name is NULL. A bracket is { or [. */
 void object_open(struct objects *objects, const char *name, char bracket);
-void object_close(struct objects *objects, char bracket); /* by the bracket that opened it */
+void object_close(struct objects *objects, char bracket);                      /* by the bracket that opened it */
 void object_text(struct objects *objects, const char *name, const char *text); /* null where that is NULL */
 void object_number(struct objects *objects, const char *name, long long number);
 void object_seconds(struct objects *objects, const char *name, double seconds); /* to the thousandth */

@@ -160,8 +160,8 @@ static int status_of(const struct run *run)
     const struct ending *ending = run->ending;
     if (run->deadlock_status)
         return run->deadlock_status;
-    if (run->settings.error &&
-        (run->alarms || run->circles || run->errors || run->misjudged || run->unknown || run->contradicted))
+    if (run->settings.error
+        && (run->alarms || run->circles || run->errors || run->misjudged || run->unknown || run->contradicted))
         return run->settings.error;
     if (run->contradicted || (run->unknown && learn_is_wanted(&run->settings)))
         return CONTRADICTED;

@@ -19,7 +19,7 @@
 /* A run that is told of, with the orders of others. */
 struct ending_run {
     struct run *run;
-    const char *name;     /* the file as it was named */
+    const char *name; /* the file as it was named */
     char *path;
     struct learnt learnt;
     struct judgement judgement;

@@ -9,8 +9,8 @@
 
 /* Of one run. A new struct is all zeroes. */
 struct learning {
-    struct learnt met;   /* by all processes */
-    struct map nameless; /* types without names that last, which are in orders */
+    struct learnt met;        /* by all processes */
+    struct map nameless;      /* types without names that last, which are in orders */
     unsigned long long_names; /* orders whose names are longer than a line may be */
 };
 

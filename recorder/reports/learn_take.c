@@ -12,9 +12,9 @@
 struct taking {
     const struct process *process;
     struct learning *learning;
-    size_t *type;              /* by locks: the number of the type among those that the run met */
-    struct map named;          /* by classes and types: 1 where no name lasts, else the number and 2 */
-    char *run;                 /* what the run is called */
+    size_t *type;     /* by locks: the number of the type among those that the run met */
+    struct map named; /* by classes and types: 1 where no name lasts, else the number and 2 */
+    char *run;        /* what the run is called */
 };
 
 /* The build of one of these objects isn't known. */

@@ -58,8 +58,8 @@ static void add_lock(struct reports *reports, const struct learnt_type *type, si
     reports_add_lock(reports, &lock, spot);
 }
 
-static void add_locks(
-    struct reports *reports, struct notes *notes, const struct learnt *learnt, const struct learnt_order *order)
+static void add_locks(struct reports *reports, struct notes *notes, const struct learnt *learnt,
+    const struct learnt_order *order)
 {
     char *held, *asked;
     places_of(order, &held, &asked);
@@ -69,8 +69,8 @@ static void add_locks(
     free(asked);
 }
 
-static void add_step(
-    struct reports *reports, struct notes *notes, const struct learnt *learnt, const struct learnt_order *order)
+static void add_step(struct reports *reports, struct notes *notes, const struct learnt *learnt,
+    const struct learnt_order *order)
 {
     char *held, *asked;
     places_of(order, &held, &asked);

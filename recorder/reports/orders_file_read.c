@@ -125,8 +125,11 @@ char *learnt_read(struct learnt *learnt, const char *path)
 {
     char *beside = say_text("%s.runs", path);
     FILE *counts = fopen(beside, "re"), *file = NULL;
-    struct reading reading = {
-        .learnt = learnt, .path = path, .before = learnt->runs, .most = 1, .has_counts = counts != NULL};
+    struct reading reading = {.learnt = learnt,
+        .path = path,
+        .before = learnt->runs,
+        .most = 1,
+        .has_counts = counts != NULL};
     char *why = !counts && errno != ENOENT && errno != ENOTDIR ? unread(beside) : NULL;
     learnt->files++;
     if (!why && (file = fopen(path, "re")) == NULL)

@@ -12,8 +12,8 @@ static bool is_broken(const struct reports *reports, const char *from, const cha
     for (size_t i = 0; i < reports->count; i++) {
         const struct report *report = &reports->report[i];
         for (size_t j = 0; report->kind == REPORT_REVERSAL && j < report->lines; j++)
-            if (report->line[j].kind == LINE_STEP && strcmp(report->line[j].type, from) == 0 &&
-                strcmp(report->line[j].other, into) == 0)
+            if (report->line[j].kind == LINE_STEP && strcmp(report->line[j].type, from) == 0
+                && strcmp(report->line[j].other, into) == 0)
                 return true;
     }
     return false;

@@ -10,9 +10,9 @@
 struct judgement {
     struct reports reports; /* a report for each circle */
     struct notes notes;
-    size_t *closing;        /* of each report the number of the order that closes its circle */
-    size_t against, room;   /* orders that close a circle with those before them */
-    char *failed;           /* why it isn't judged; NULL where it is: then all other orders together have no circle */
+    size_t *closing;      /* of each report the number of the order that closes its circle */
+    size_t against, room; /* orders that close a circle with those before them */
+    char *failed;         /* why it isn't judged; NULL where it is: then all other orders together have no circle */
 };
 
 /*

@@ -12,9 +12,9 @@ struct process;
 /* An order of two types, or a request that goes against one. All texts are its own. */
 struct order {
     char *from, *to;
-    char *site;         /* where it was first asked for; NULL where that isn't known */
-    bool is_reversal;   /* it was reported: it goes against an order, or asks for a second lock of the type */
-    bool is_broken;     /* a reversal goes against it */
+    char *site;       /* where it was first asked for; NULL where that isn't known */
+    bool is_reversal; /* it was reported: it goes against an order, or asks for a second lock of the type */
+    bool is_broken;   /* a reversal goes against it */
 };
 
 struct order_list {

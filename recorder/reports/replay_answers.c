@@ -68,9 +68,8 @@ static void keep(struct replaying *replaying, int status)
     size_t bytes = replaying->length + replaying->told_length;
     if (status >= DEATH || bytes > ANSWERS_BYTES - answers->bytes)
         return;
-    ADD(answers->answer, answers->count, answers->room) = (struct answer){
-        replaying->lines, copy_bytes(replaying->told, replaying->told_length), replaying->length,
-        replaying->told_length, status};
+    ADD(answers->answer, answers->count, answers->room) = (struct answer){replaying->lines,
+        copy_bytes(replaying->told, replaying->told_length), replaying->length, replaying->told_length, status};
     answers->bytes += bytes;
     replaying->lines = NULL;
 }

@@ -81,8 +81,8 @@ static void say_lock(struct report_line *line)
     free(line->heading);
     free(line->words);
     line->heading = heading;
-    line->words = is_type ? say_text("%s (%s)", heading, line->class)
-                          : say_text("%s (%s, %s)", heading, line->type, line->class);
+    line->words =
+        is_type ? say_text("%s (%s)", heading, line->class) : say_text("%s (%s, %s)", heading, line->type, line->class);
     free(lock);
 }
 
@@ -112,8 +112,8 @@ static struct report_line *new_line(struct reports *reports, enum line_kind kind
     return line;
 }
 
-struct report_line *reports_add_line(
-    struct reports *reports, enum line_kind kind, const char *heading, size_t spot, const char *site)
+struct report_line *reports_add_line(struct reports *reports, enum line_kind kind, const char *heading, size_t spot,
+    const char *site)
 {
     struct report_line *line = new_line(reports, kind);
     line->heading = copy(heading);

@@ -22,10 +22,10 @@ struct report_line {
         LINE_WAITS, /* of a circle: a seat waits for the lock of that name, which seat `next` holds */
         LINE_HOLDS, /* and a lock that a seat of it holds */
     } kind;
-    char *text;                  /* as it is told: its place by place_words.h */
-    char *words;                 /* that without the place; NULL where there is none */
-    char *heading;               /* of a place: these, and of a lock without its type */
-    char *name, *type, *class;   /* of a lock; a step has the types that are in order as its type and other */
+    char *text;                /* as it is told: its place by place_words.h */
+    char *words;               /* that without the place; NULL where there is none */
+    char *heading;             /* of a place: these, and of a lock without its type */
+    char *name, *type, *class; /* of a lock; a step has the types that are in order as its type and other */
     char *other;
     const char *site;            /* FILE:LINE, or as in ../code_words.h */
     char *own_site;              /* where it stands, if not in the notes */
@@ -51,11 +51,11 @@ struct report {
     } kind;
     struct report_line *line; /* the first says what it is */
     size_t lines, room;
-    size_t first, last;       /* the numbers of the lines of the two locks whose types are at odds; 0 where there is none */
-    bool is_over;             /* the thread that waited for itself went on */
-    char *silence;            /* the line of an ignore file that would silence it; NULL where none would */
-    enum peace_cause peace;   /* why it isn't told */
-    struct alarm alarm;       /* how much it is to be feared, once the reports are graded (grades.h) */
+    size_t first, last; /* the numbers of the lines of the two locks whose types are at odds; 0 where there is none */
+    bool is_over;       /* the thread that waited for itself went on */
+    char *silence;      /* the line of an ignore file that would silence it; NULL where none would */
+    enum peace_cause peace;    /* why it isn't told */
+    struct alarm alarm;        /* how much it is to be feared, once the reports are graded (grades.h) */
     struct schedule *schedule; /* how its threads come to hang; NULL where no single locks were taken both ways */
 };
 
@@ -73,8 +73,8 @@ void reports_add_words(struct reports *reports, const char *words);
 void reports_add_lock(struct reports *reports, const struct lock_name *lock, size_t spot);
 void reports_add_step(struct reports *reports, const char *from, const char *into, size_t spot);
 /* Another line of it; its place is that site, or where it is NULL the one of that number in the notes. */
-struct report_line *reports_add_line(
-    struct reports *reports, enum line_kind kind, const char *heading, size_t spot, const char *site);
+struct report_line *reports_add_line(struct reports *reports, enum line_kind kind, const char *heading, size_t spot,
+    const char *site);
 
 /* Gives a reversal or a duplicate, which has all its locks, the line that would silence it. */
 void report_names_silence(struct report *report, const struct notes *notes);

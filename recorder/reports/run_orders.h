@@ -27,16 +27,16 @@ struct learnt_order {
     struct here {
         const char *place; /* as the origin has it, with the line */
         const char *site;  /* FILE:LINE, or OBJECT+OFFSET(FUNCTION):0 */
-    } asked, held; /* where a run that ended just now did so; else both are NULL */
-    size_t from, to;    /* numbers of types, from 0 on */
-    unsigned long runs; /* in so many it was met */
-    unsigned long last; /* the number of the last of them, from 1 on; 0 where that isn't known */
-    size_t file;        /* the number of the file that was read last of those that have it */
-    bool is_met;        /* the run that ended just now met it */
-    bool is_new;        /* no file has it */
-    bool is_blessed;    /* the user allows either order of its types: it isn't judged */
-    bool is_against;    /* it was judged: it closes a circle with orders that come before it */
-    bool is_told;       /* a report of the run itself says so */
+    } asked, held;         /* where a run that ended just now did so; else both are NULL */
+    size_t from, to;       /* numbers of types, from 0 on */
+    unsigned long runs;    /* in so many it was met */
+    unsigned long last;    /* the number of the last of them, from 1 on; 0 where that isn't known */
+    size_t file;           /* the number of the file that was read last of those that have it */
+    bool is_met;           /* the run that ended just now met it */
+    bool is_new;           /* no file has it */
+    bool is_blessed;       /* the user allows either order of its types: it isn't judged */
+    bool is_against;       /* it was judged: it closes a circle with orders that come before it */
+    bool is_told;          /* a report of the run itself says so */
 };
 
 /* A new struct is all zeroes. */
@@ -45,8 +45,8 @@ struct learnt {
     size_t types, type_room;
     struct learnt_order *order;
     size_t orders, order_room;
-    unsigned long runs; /* so many were counted */
-    size_t files;       /* so many were read */
+    unsigned long runs;           /* so many were counted */
+    size_t files;                 /* so many were read */
     struct map type_of, order_of; /* numbers by texts and by keys, from 1 on */
     struct texts *texts;
 };

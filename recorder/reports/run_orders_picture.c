@@ -76,8 +76,10 @@ static bool write_document(const char *path, const char *witness, struct finding
 static bool write_page(const struct drawing *drawing, const struct learnt *learnt, struct judgement *judgement,
     const char *summary)
 {
-    struct findings findings = {
-        .command = "orders", .version = WITNESS_VERSION, .program = "all files together", .ended = time(NULL)};
+    struct findings findings = {.command = "orders",
+        .version = WITNESS_VERSION,
+        .program = "all files together",
+        .ended = time(NULL)};
     struct found *found = findings_add(&findings, findings.program, 0);
     add_orders(&found->orders, learnt, &judgement->reports);
     found->notes = judgement->notes;

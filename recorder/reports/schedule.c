@@ -7,14 +7,14 @@
 const char *schedule_word(const struct schedule *schedule)
 {
     static const char *const words[] = {[SCHEDULE_UNANSWERED] = "unanswered",
-                                        [SCHEDULE_UNDECIDED] = "undecided",
-                                        [SCHEDULE_HANGS] = "hangs",
-                                        [SCHEDULE_BARRED] = "barred",
-                                        [SCHEDULE_GATE] = "gate",
-                                        [SCHEDULE_READERS] = "readers",
-                                        [SCHEDULE_APART] = "apart",
-                                        [SCHEDULE_CUT] = "cut",
-                                        [SCHEDULE_UNTOLD] = "untold"};
+        [SCHEDULE_UNDECIDED] = "undecided",
+        [SCHEDULE_HANGS] = "hangs",
+        [SCHEDULE_BARRED] = "barred",
+        [SCHEDULE_GATE] = "gate",
+        [SCHEDULE_READERS] = "readers",
+        [SCHEDULE_APART] = "apart",
+        [SCHEDULE_CUT] = "cut",
+        [SCHEDULE_UNTOLD] = "untold"};
     return words[schedule->result];
 }
 

@@ -15,9 +15,9 @@ struct schedule_row {
     enum row_does { ROW_GETS, ROW_LETS_GO, ROW_WAITS } does;
     const char *lock; /* its name, a text of the notes */
     bool shared;
-    const char *site; /* a text of the notes; NULL where it isn't known */
-    bool rests;       /* other threads had the lock in the run that hadn't by now, or the other way round */
-    bool is_late;     /* of one that rests: it comes after such a one, and in the run before it */
+    const char *site;  /* a text of the notes; NULL where it isn't known */
+    bool rests;        /* other threads had the lock in the run that hadn't by now, or the other way round */
+    bool is_late;      /* of one that rests: it comes after such a one, and in the run before it */
     const char *other; /* and where that one got it, or asked for it; NULL where it isn't known */
 };
 
@@ -35,11 +35,11 @@ struct schedule {
     } result;
     struct schedule_row *row; /* of one that hangs; the last ones wait, one for each column */
     size_t rows, row_room;
-    struct schedule_row bar;  /* of one that is barred, the step that can't be done; of a gate, its lock */
-    bool copies;              /* a further thread does what one of the run did */
-    bool ends;                /* a request of it has a time limit */
-    size_t rests_on;          /* how many of the rows rest */
-    char *text;               /* what is told of it, without its heading; empty where nothing is */
+    struct schedule_row bar; /* of one that is barred, the step that can't be done; of a gate, its lock */
+    bool copies;             /* a further thread does what one of the run did */
+    bool ends;               /* a request of it has a time limit */
+    size_t rests_on;         /* how many of the rows rest */
+    char *text;              /* what is told of it, without its heading; empty where nothing is */
 };
 
 /* The word of the result for machines. */

@@ -15,9 +15,9 @@ struct reading {
     bool is_schedule;       /* its lines are being read */
     struct errand_act *act; /* what the seats did in it */
     size_t acts, act_room;
-    size_t *done;           /* by seats, how many of their steps */
-    bool *waits;            /* and whether it asks, at its errand's end */
-    bool is_odd;            /* a line isn't the one that must come */
+    size_t *done; /* by seats, how many of their steps */
+    bool *waits;  /* and whether it asks, at its errand's end */
+    bool is_odd;  /* a line isn't the one that must come */
 };
 
 static struct schedule *schedule_of(const struct reading *reading, size_t circle)
@@ -55,7 +55,8 @@ static void end_schedule(struct reading *reading)
     for (size_t i = 0; i < reading->trace->seats; i++)
         if (reading->waits[i])
             reading->circle[circle].used[seat[i].fact - reading->circle[circle].fact] = seat[i].telling;
-    schedule_rows(schedule_of(reading, circle), reading->trace, reading->notes, reading->act, reading->acts, reading->waits);
+    schedule_rows(schedule_of(reading, circle), reading->trace, reading->notes, reading->act, reading->acts,
+        reading->waits);
 }
 
 /* A step of the seat's, in the sequence of its errand. After its request it lets go what it has. */
@@ -99,8 +100,8 @@ static size_t seat_at(const struct errand_trace *trace, unsigned long line)
 /* How much it says, of what isn't a schedule: what says more counts. */
 static int weight(enum schedule_result result)
 {
-    static const int weights[SCHEDULE_UNTOLD + 1] = {[SCHEDULE_READERS] = 1, [SCHEDULE_GATE] = 2, [SCHEDULE_BARRED] = 3,
-        [SCHEDULE_UNDECIDED] = 4, [SCHEDULE_HANGS] = 5};
+    static const int weights[SCHEDULE_UNTOLD + 1] =
+        {[SCHEDULE_READERS] = 1, [SCHEDULE_GATE] = 2, [SCHEDULE_BARRED] = 3, [SCHEDULE_UNDECIDED] = 4, [SCHEDULE_HANGS] = 5};
     return weights[result];
 }
 

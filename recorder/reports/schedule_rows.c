@@ -21,9 +21,13 @@ struct schedule_row schedule_row_of(const struct errand_trace *trace, const stru
     const struct single_step *had = errand_has(seat, serial, step);
     return (struct schedule_row){
         .thread = fact_thread(&notes->single, seat->fact),
-        .does = is_request ? ROW_WAITS : seat->step[step].gets ? ROW_GETS : ROW_LETS_GO,
+        .does = is_request          ? ROW_WAITS
+            : seat->step[step].gets ? ROW_GETS
+                                    : ROW_LETS_GO,
         .lock = schedule_lock(trace, notes, errand_lock_number(trace, seat, serial)),
-        .shared = is_request ? asked->shared : had ? had->shared : seat->step[step].shared,
+        .shared = is_request ? asked->shared
+            : had            ? had->shared
+                             : seat->step[step].shared,
         .site = single_site(&notes->single, is_request ? seat->telling->place : seat->step[step].place),
     };
 }

@@ -18,7 +18,8 @@ void schedule_rows(struct schedule *schedule, const struct errand_trace *trace, 
     const struct errand_act *act, size_t acts, const bool *waits);
 
 /* The step as a row; that after the last one is the request. */
-struct schedule_row schedule_row_of(const struct errand_trace *trace, const struct notes *notes, size_t seat, size_t step);
+struct schedule_row schedule_row_of(const struct errand_trace *trace, const struct notes *notes, size_t seat,
+    size_t step);
 
 /* The name of the lock of that number in the trace; that of its type where it has none. */
 const char *schedule_lock(const struct errand_trace *trace, const struct notes *notes, size_t number);

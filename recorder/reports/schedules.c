@@ -57,8 +57,8 @@ static void add_circle(struct errand_trace *trace, const struct single *single, 
     }
 }
 
-static void ask(struct errand_trace *trace, const struct notes *notes, const struct circle *circle, const char *forecaster,
-    bool briefly)
+static void ask(struct errand_trace *trace, const struct notes *notes, const struct circle *circle,
+    const char *forecaster, bool briefly)
 {
     struct tool tool;
     struct answer answer = {NULL, 0, 0};

@@ -14,7 +14,7 @@ struct ending {
     enum how { HOW_EXIT, HOW_SIGNAL, HOW_UNSTARTED, HOW_RUNNING } how;
     int number; /* the status, or the signal */
     pid_t process;
-    bool left;  /* processes that it has begun go on */
+    bool left; /* processes that it has begun go on */
 };
 
 /* What is told of a run, while it goes on and when it has ended. */

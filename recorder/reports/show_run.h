@@ -23,7 +23,7 @@
 
 /* A file of a process in the recording. */
 struct recording {
-    char *name;   /* PROCESS.NUMBER */
+    char *name; /* PROCESS.NUMBER */
     long process;
     bool goes_on;
 };
@@ -42,36 +42,36 @@ struct run {
     size_t recordings, recording_room;
     long *going; /* processes that go on, when the program has ended */
     size_t goings, going_room;
-    bool left;   /* something goes on */
+    bool left;        /* something goes on */
     bool has_started; /* the program has loaded the recorder */
     bool is_kept;     /* the recording stays */
 
     size_t shown; /* processes that were told of */
     unsigned long reports, circles, errors;
     struct alarms_wanted alarms_wanted;
-    int deadlock_status;  /* of `record`, since a process was ended; 0 where none was */
-    unsigned long alarms; /* the reports that count for the status */
+    int deadlock_status;          /* of `record`, since a process was ended; 0 where none was */
+    unsigned long alarms;         /* the reports that count for the status */
     unsigned long ignored, known; /* what isn't told: by the user's file, and as right in a library */
-    unsigned long confirmed; /* those that hung */
-    bool reported;  /* something was, of any kind */
-    bool misjudged; /* a trace isn't one of locks that were free when they were taken */
-    bool partly;    /* not all was recorded */
-    bool unknown;   /* of a process that was recorded nothing is known */
-    char *unclean;  /* why the run isn't clean, NULL where it is */
-    struct learning *learning; /* the orders of its processes (learn.h); NULL where none were taken */
-    bool contradicted; /* one of them is against those of other runs */
-    bool has_new;      /* one of them is new */
-    const char **blind; /* objects in which stacks end */
+    unsigned long confirmed;      /* those that hung */
+    bool reported;                /* something was, of any kind */
+    bool misjudged;               /* a trace isn't one of locks that were free when they were taken */
+    bool partly;                  /* not all was recorded */
+    bool unknown;                 /* of a process that was recorded nothing is known */
+    char *unclean;                /* why the run isn't clean, NULL where it is */
+    struct learning *learning;    /* the orders of its processes (learn.h); NULL where none were taken */
+    bool contradicted;            /* one of them is against those of other runs */
+    bool has_new;                 /* one of them is new */
+    const char **blind;           /* objects in which stacks end */
     size_t blinds, blind_room;
     const char **library; /* those whose right orders were silenced */
     size_t libraries, library_room;
     unsigned long *matched; /* lines of the ignore file that name types */
     size_t matches, matched_room;
-    struct told *told;  /* reports that were told (equal.c) */
+    struct told *told; /* reports that were told (equal.c) */
     size_t tolds, told_room;
     struct followed *followed; /* streams that were read while the program ran (follow.c) */
     size_t followeds, followed_room;
-    long long follow_next;     /* when they are looked at again, in microseconds */
+    long long follow_next;    /* when they are looked at again, in microseconds */
     struct findings findings; /* for files that were asked for, and for reports to be confirmed */
     struct watched *watched;  /* of a steered run (steered.h); NULL of any other */
 };
@@ -79,16 +79,16 @@ struct run {
 struct process {
     struct run *run;
     const struct recording *recording;
-    const char *name;     /* its program's */
+    const char *name; /* its program's */
     struct stream stream;
     struct notes notes;
     struct reports reports;
     struct reports silenced; /* what isn't told: the user doesn't want it, or it is right in a library */
     struct state state;
-    int status;           /* of the verifier, as a shell says it */
-    bool resolved;        /* else its lines couldn't be made */
-    bool is_followed;     /* it goes on, and only its reports are wanted */
-    bool is_last_look;    /* and it isn't looked at again meanwhile */
+    int status;        /* of the verifier, as a shell says it */
+    bool resolved;     /* else its lines couldn't be made */
+    bool is_followed;  /* it goes on, and only its reports are wanted */
+    bool is_last_look; /* and it isn't looked at again meanwhile */
 };
 
 /* Why nothing is known of a program, where nothing else is known to be the cause. */

@@ -46,12 +46,12 @@ static bool read_lock(const struct single *single, const char **at, const char *
     struct told *told)
 {
     unsigned long number, serial, type;
-    if (!read_number(at, end, &number) || !read_number(at, end, &serial) || !read_number(at, end, &type) || end - *at < 2
-        || **at != ' ')
+    if (!read_number(at, end, &number) || !read_number(at, end, &serial) || !read_number(at, end, &type)
+        || end - *at < 2 || **at != ' ')
         return false;
     const char *how = *at + 1;
-    *lock = (struct single_lock){(uint32_t)number, (uint32_t)serial, type < single->types ? single->type[type].first : 0,
-        *how == 's'};
+    *lock = (struct single_lock){(uint32_t)number, (uint32_t)serial,
+        type < single->types ? single->type[type].first : 0, *how == 's'};
     while (how < end && *how != ' ')
         read_letter(*how++, told);
     *at = how;
@@ -140,7 +140,10 @@ static void add_plain_errand(struct single *single, const struct told *told, lon
 {
     ADD(single->errand, single->errands, single->errand_room) = (struct single_errand){thread, single->steps, 1, false};
     ADD(single->step, single->steps, single->step_room) = (struct single_step){.serial = told->pair.held.serial,
-        .place = place, .gets = true, .shared = told->pair.held.shared, .tried = told->is_tried};
+        .place = place,
+        .gets = true,
+        .shared = told->pair.held.shared,
+        .tried = told->is_tried};
 }
 
 /* TOOK: where the held lock was acquired. Where the errand isn't there, nothing is known of the way. */
@@ -231,11 +234,11 @@ void single_read(struct single *single, const char *line, size_t length)
     else if (begins(&at, end, WORD_MANY))
         single->is_full = true;
     else if (begins(&at, end, WORD_LIFE) && read_three(at, end, number))
-        ADD(single->life, single->lives, single->life_room)
-            = (struct single_life){(long)number[0], (long)number[1], number[2]};
+        ADD(single->life, single->lives, single->life_room) =
+            (struct single_life){(long)number[0], (long)number[1], number[2]};
     else if (begins(&at, end, WORD_JOINED) && read_three(at, end, number))
-        ADD(single->join, single->joins, single->join_room)
-            = (struct single_join){(long)number[0], (long)number[1], number[2]};
+        ADD(single->join, single->joins, single->join_room) =
+            (struct single_join){(long)number[0], (long)number[1], number[2]};
 }
 
 static int by_numbers(unsigned long one, unsigned long other)

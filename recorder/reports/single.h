@@ -52,7 +52,7 @@ struct single_telling {
 struct single_pair {
     struct single_lock held, asked;
     enum single_how { SINGLE_PLAINLY, SINGLE_FOR_A_TIME, SINGLE_REPEATEDLY, SINGLE_AS_A_WAIT_ENDS } how;
-    bool under;                      /* the held one was acquired while the other was held */
+    bool under;                              /* the held one was acquired while the other was held */
     struct single_lock beside[BESIDES_MOST]; /* that were held each time besides; shared where one ever was */
     size_t besides;
     struct single_deed deed[2];
@@ -82,7 +82,7 @@ struct single {
     size_t types, type_room;  /* one more than the highest number */
     struct single_pair *pair;
     size_t pairs, pair_room;
-    struct map by_key;        /* where each pair is, from 1 on; empty after single_sort */
+    struct map by_key;              /* where each pair is, from 1 on; empty after single_sort */
     struct single_telling *telling; /* in the sequence of the file */
     size_t tellings, telling_room;
     struct single_errand *errand;

@@ -175,7 +175,7 @@ static void write_source(struct objects *to, const struct sources *sources, stru
 void sources_write(struct objects *to, const struct findings *findings)
 {
     struct sources sources = {.findings = findings,
-                              .folder = findings->directory ? realpath(findings->directory, NULL) : NULL};
+        .folder = findings->directory ? realpath(findings->directory, NULL) : NULL};
     for (size_t i = 0; i < findings->findings; i++)
         add_finding(&sources, &findings->finding[i]);
     object_open(to, "sources", '[');

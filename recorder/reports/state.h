@@ -25,7 +25,7 @@ struct holding {
 struct seat {
     struct holding *held; /* oldest first */
     size_t count, room;
-    unsigned asked;       /* the lock that it waits for; 0 where it waits for none */
+    unsigned asked; /* the lock that it waits for; 0 where it waits for none */
     bool asked_shared;
     size_t asked_at;
 };
@@ -33,13 +33,13 @@ struct seat {
 /* A new struct is all zeroes. */
 struct state {
     bool lacks_orders; /* they aren't wanted */
-    bool is_whole; /* all was told */
-    bool is_clean; /* and nothing is to be feared of what was read */
-    size_t bads;   /* lines that can't be */
+    bool is_whole;     /* all was told */
+    bool is_clean;     /* and nothing is to be feared of what was read */
+    size_t bads;       /* lines that can't be */
     struct known_order *order;
     size_t orders, order_room;
     struct seat seat[SEATS_MOST + 1]; /* by their numbers */
-    unsigned *circle; /* each of these seats waits for the next one, and the last for the first */
+    unsigned *circle;                 /* each of these seats waits for the next one, and the last for the first */
     size_t circles, circle_room;
 };
 

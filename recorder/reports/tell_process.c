@@ -179,8 +179,9 @@ static void tell_reports(struct process *process)
 void tell_new_reports(struct process *process)
 {
     size_t count = 0;
-    while (count < process->reports.count && (process->reports.report[count].kind == REPORT_REVERSAL
-               || process->reports.report[count].kind == REPORT_DUPLICATE))
+    while (count < process->reports.count
+        && (process->reports.report[count].kind == REPORT_REVERSAL
+            || process->reports.report[count].kind == REPORT_DUPLICATE))
         count++;
     if (!is_replayed(process) || count == 0)
         return;
@@ -194,7 +195,9 @@ static void look_for_premises(struct process *process)
     struct run *run = process->run;
     unsigned long releases, rereads;
     const struct state *state = &process->state;
-    const char *answer = !state->is_whole ? "it wasn't looked at" : state->is_clean ? NULL : "what was reported is silenced";
+    const char *answer = !state->is_whole ? "it wasn't looked at"
+        : state->is_clean                 ? NULL
+                                          : "what was reported is silenced";
     if (!stream_count(&process->stream, "releases", &releases) || releases > 0)
         answer = "a lock was released by a thread that didn't hold it";
     else if (!stream_count(&process->stream, "rereads", &rereads) || rereads > 0)
@@ -245,8 +248,9 @@ static void tell_blocks(struct process *process)
 {
     unsigned long blocks;
     if (stream_count(&process->stream, "blocks", &blocks) && blocks > 0)
-        say(&process->run->output, "%s: --blocks: of %lu locks the block of memory isn't known; they are told as without it",
-            process->name, blocks);
+        say(&process->run->output,
+            "%s: --blocks: of %lu locks the block of memory isn't known; they are told as without it", process->name,
+            blocks);
 }
 
 /* What the replay doesn't tell: what was left out, and releases by other threads. */

@@ -10,10 +10,10 @@
 #include <sys/types.h>
 
 struct verdict {
-    FILE *told;    /* where its output goes, as it comes */
-    pid_t process; /* 0 where it wasn't begun */
-    int status;    /* where it wasn't begun: why, as a shell says it */
-    int in, out;   /* -1 where closed */
+    FILE *told;      /* where its output goes, as it comes */
+    pid_t process;   /* 0 where it wasn't begun */
+    int status;      /* where it wasn't begun: why, as a shell says it */
+    int in, out;     /* -1 where closed */
     bool had_little; /* of what it told, when that was taken last */
 };
 

@@ -24,7 +24,8 @@ static void tell_failed(struct run *run, const struct failed *failed)
 
 static void tell_bare(struct run *run, const struct bare *bare)
 {
-    const char *why = bare->lacks_memory ? "there was too little memory for the recorder (a limit on addresses?)" : no_recorder;
+    const char *why =
+        bare->lacks_memory ? "there was too little memory for the recorder (a limit on addresses?)" : no_recorder;
     if (bare->process == run->ending->process && is_asked(run->settings.misfit))
         why = run->settings.misfit;
     run->partly = true;

@@ -6,9 +6,9 @@
 
 #include <stddef.h>
 
-void *take(size_t bytes);                          /* all zeroes */
-void *grow(void *old, size_t count, size_t size);  /* as realloc, of `count` things of that size */
-char *copy(const char *text);                      /* a text of one's own */
+void *take(size_t bytes);                         /* all zeroes */
+void *grow(void *old, size_t count, size_t size); /* as realloc, of `count` things of that size */
+char *copy(const char *text);                     /* a text of one's own */
 char *copy_bytes(const char *bytes, size_t length);
 /* As sprintf, into a text of one's own. */
 char *say_text(const char *format, ...) __attribute__((format(printf, 1, 2)));
@@ -16,6 +16,6 @@ char *say_text(const char *format, ...) __attribute__((format(printf, 1, 2)));
 /* Room for one more at the end of a growing array: ADD(list, count, room) is an lvalue of the new last one. */
 #define ADD(list, count, room)                                                                                         \
     (*((count) < (room) ? 0 : ((room) = (room) ? 2 * (room) : 16, (list) = grow((list), (room), sizeof *(list)), 0),   \
-       (list) + (count)++))
+        (list) + (count)++))
 
 #endif

@@ -44,7 +44,8 @@ void completion_begin(const char *shell)
 {
     if (is_bash(shell))
         fputs("# bash completion for record\n"
-              "_record_options='\n", stdout);
+              "_record_options='\n",
+            stdout);
     else if (is_zsh(shell))
         fputs("#compdef record\n_arguments -S \\\n", stdout);
     else

@@ -20,8 +20,8 @@ struct subject {
     struct planned *planned; /* NULL where its places can't be found again */
     const char *const *type; /* the types of its locks */
     size_t types;
-    const char *about;       /* by what it is told */
-    unsigned runs;           /* so many at most */
+    const char *about; /* by what it is told */
+    unsigned runs;     /* so many at most */
     struct confirmed *confirmed;
 };
 

@@ -49,8 +49,8 @@ static void check_build(struct reading *reading, const struct value *code)
     if (!object || number_of(code, "named"))
         return;
     if (!build_id)
-        refuse_target(
-            "%s: %s has no build id, so it isn't known whether it is the one that was recorded", reading->path, object);
+        refuse_target("%s: %s has no build id, so it isn't known whether it is the one that was recorded",
+            reading->path, object);
     struct object_file file = object_file_read(object, reading->texts);
     if (!file.build_id || strcmp(file.build_id, build_id) != 0)
         refuse_target("%s: %s isn't the one that was recorded: record it anew", reading->path, object);
@@ -77,14 +77,14 @@ static struct code_place variable_of(struct reading *reading, const struct value
 }
 
 /* Where `value` is NULL, nothing is known of the place. */
-static struct planned_place place_of_value(
-    struct reading *reading, const struct value *value, const struct value *report, const char *type)
+static struct planned_place place_of_value(struct reading *reading, const struct value *value,
+    const struct value *report, const char *type)
 {
     struct planned_place place = {.site = text_of(value, "site"), .at = (unsigned long)number_of(value, "at")};
     place.lock = variable_of(reading, report, type);
     for (const struct value *call = list_of(value, "calls"); call && place.calls < CALLS_MOST; call = call->next)
-        place.call[place.calls++]
-            = (struct call){code_of_value(reading, call), code_of_value(reading, value_of(call, "rest"))};
+        place.call[place.calls++] =
+            (struct call){code_of_value(reading, call), code_of_value(reading, value_of(call, "rest"))};
     return place;
 }
 

@@ -89,7 +89,9 @@ static void write_why(FILE *to, const struct planned *planned, const struct coun
     long thread = lone_thread(planned, counted);
     if (thread)
         fprintf(to, "thread %ld alone came %s", thread,
-            planned->plan.orders == 1 ? "there" : planned->plan.orders == 2 ? "to both places" : "to all places");
+            planned->plan.orders == 1       ? "there"
+                : planned->plan.orders == 2 ? "to both places"
+                                            : "to all places");
     else
         write_times(to, planned, counted);
 }

@@ -8,11 +8,11 @@
 
 /* What was seen of a process. A new struct is all zeroes. */
 struct deadlock {
-    char *circle;    /* as it would be told; NULL where there is none */
-    long long since; /* when it was seen first, in microseconds */
+    char *circle;       /* as it would be told; NULL where there is none */
+    long long since;    /* when it was seen first, in microseconds */
     long long patience; /* for so long it has to stand */
     bool is_told;
-    bool is_over;    /* what --on-deadlock says was done, or nothing is to be */
+    bool is_over; /* what --on-deadlock says was done, or nothing is to be */
 };
 
 /* Whether there is a circle to be looked at again, though nothing was written meanwhile. */

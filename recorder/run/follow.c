@@ -39,8 +39,8 @@ static struct followed *followed_of(struct run *run, const char *name)
     for (size_t i = 0; i < run->followeds; i++)
         if (strcmp(run->followed[i].name, name) == 0)
             return &run->followed[i];
-    ADD(run->followed, run->followeds, run->followed_room) = (struct followed){
-        .name = copy(name), .going = take(sizeof(struct going_verdict))};
+    ADD(run->followed, run->followeds, run->followed_room) =
+        (struct followed){.name = copy(name), .going = take(sizeof(struct going_verdict))};
     return &run->followed[run->followeds - 1];
 }
 

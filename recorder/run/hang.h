@@ -9,7 +9,7 @@
 
 /* A thread that hangs: it has taken a lock that another one of the circle waits for, and waits for one itself. */
 struct hung_thread {
-    long thread; /* as the kernel counts; 0 where it isn't known */
+    long thread;          /* as the kernel counts; 0 where it isn't known */
     char *took, *took_at; /* NULL where that isn't known */
     char *wants, *wants_at;
     char *type; /* of the lock that it wants */
@@ -19,7 +19,7 @@ struct hung_thread {
 struct hang {
     struct hung_thread *thread;
     size_t threads, room;
-    double seconds;  /* after the process began */
+    double seconds; /* after the process began */
     /* Each lock names the next thread as its holder, or a reader holds it and no lock was ever handed over. */
     bool is_certain;
 };

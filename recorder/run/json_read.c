@@ -70,8 +70,8 @@ static char *read_number_of_character(struct reader *reader, char *to)
     if (unit < 0)
         return NULL;
     reader->at += 4;
-    if (unit >= 0xd800 && unit < 0xdc00 && strncmp(reader->at, "\\u", 2) == 0 && (low = read_unit(reader->at + 2)) >= 0xdc00
-        && low < 0xe000) {
+    if (unit >= 0xd800 && unit < 0xdc00 && strncmp(reader->at, "\\u", 2) == 0
+        && (low = read_unit(reader->at + 2)) >= 0xdc00 && low < 0xe000) {
         reader->at += 6;
         unit = 0x10000 + ((unit - 0xd800) << 10) + (low - 0xdc00);
     }
@@ -131,8 +131,7 @@ static bool read_inner(struct reader *reader, struct value *value, const char *e
         return true;
     do {
         const char *name = NULL;
-        if (value->kind == VALUE_OBJECT
-            && (!takes(reader, "\"") || !(name = read_text(reader)) || !takes(reader, ":")))
+        if (value->kind == VALUE_OBJECT && (!takes(reader, "\"") || !(name = read_text(reader)) || !takes(reader, ":")))
             return false;
         *last = read_value(reader);
         if (!*last)

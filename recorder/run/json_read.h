@@ -10,9 +10,9 @@
 
 struct value {
     enum { VALUE_NULL, VALUE_TRUTH, VALUE_NUMBER, VALUE_TEXT, VALUE_LIST, VALUE_OBJECT } kind;
-    const char *name;  /* within an object; NULL elsewhere */
-    const char *text;  /* of a text; a zero in it ends it */
-    long long number;  /* of a number what stands before its point; of a truth 1 or 0 */
+    const char *name;           /* within an object; NULL elsewhere */
+    const char *text;           /* of a text; a zero in it ends it */
+    long long number;           /* of a number what stands before its point; of a truth 1 or 0 */
     struct value *first, *next; /* of a list or an object what it has; what comes after this in the same one */
 };
 

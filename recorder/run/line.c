@@ -37,8 +37,8 @@ bool line_next(struct line *line, const char **at, const char *end)
 bool field_is(const struct line *line, unsigned number, const char *word)
 {
     size_t length = strlen(word);
-    return number < line->count && line->field[number].length == length &&
-        memcmp(line->field[number].at, word, length) == 0;
+    return number < line->count && line->field[number].length == length
+        && memcmp(line->field[number].at, word, length) == 0;
 }
 
 bool field_number(const struct line *line, unsigned number, uint32_t most, uint32_t *value)

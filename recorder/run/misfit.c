@@ -110,7 +110,8 @@ static struct misfit misfit_below(const char *program, struct head *head, int de
     }
     misfit = by_head(head);
     if (!misfit.why
-        && ((found.st_mode & S_ISUID && found.st_uid != geteuid()) || (found.st_mode & S_ISGID && found.st_gid != getegid())))
+        && ((found.st_mode & S_ISUID && found.st_uid != geteuid())
+            || (found.st_mode & S_ISGID && found.st_gid != getegid())))
         misfit.why = "it runs as another user (setuid)";
     return misfit;
 }

@@ -179,7 +179,8 @@ static void take_alarms(struct options *options, const char *word)
 {
     struct alarms_wanted wanted = {0};
     if (!alarms_words(word, &wanted))
-        refuse("--alarms takes all, locks or threads, and gate, readers, timed, apart and confirmed, by commas, not %s", word);
+        refuse("--alarms takes all, locks or threads, and gate, readers, timed, apart and confirmed, by commas, not %s",
+            word);
     options->settings.alarms = word;
     options->counts_confirmed = wanted.confirmed;
 }

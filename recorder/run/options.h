@@ -10,13 +10,13 @@
 
 struct options {
     struct settings settings;
-    const char *here;   /* the folder of the recorder's sources */
-    const char *target; /* --show; NULL where it isn't given */
-    const char *trace;  /* --trace; NULL where it isn't given */
-    const char *clean;  /* --clean; NULL where it isn't given */
-    char **program;     /* its name and its words */
+    const char *here;      /* the folder of the recorder's sources */
+    const char *target;    /* --show; NULL where it isn't given */
+    const char *trace;     /* --trace; NULL where it isn't given */
+    const char *clean;     /* --clean; NULL where it isn't given */
+    char **program;        /* its name and its words */
     const char *on_report; /* --on-report: what libwitness does at a report; NULL where it isn't wanted */
-    bool gdb;           /* --gdb: the program runs in gdb, which stands where a report's lock is asked for */
+    bool gdb;              /* --gdb: the program runs in gdb, which stands where a report's lock is asked for */
     bool counts_confirmed; /* --alarms confirmed */
     int depth;
     bool held, semaphores, blocks;

@@ -11,7 +11,7 @@ struct output {
     const char *log; /* NULL where it is standard error */
     bool several;
     bool is_coloured; /* headings are */
-    long speaker;    /* whose lines follow; 0 where they are of the whole run */
+    long speaker;     /* whose lines follow; 0 where they are of the whole run */
     /* Is told all lines but those of reports, too; NULL where nobody is. */
     void (*hear)(void *by, long speaker, const char *text, size_t length);
     void *by;

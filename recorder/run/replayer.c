@@ -42,8 +42,10 @@ static void announce_trial(const char *witness, const char *top)
 {
     if (!file_is_command("rt"))
         fail("%s isn't built, and there is no rt to try it with: nothing was run", witness);
-    fprintf(stderr, "record: %s isn't built: a trial of it answers when the program has ended, in one to two minutes a "
-        "process, each time, not proved on this machine; make -C %s builds it\n", witness, top);
+    fprintf(stderr,
+        "record: %s isn't built: a trial of it answers when the program has ended, in one to two minutes a "
+        "process, each time, not proved on this machine; make -C %s builds it\n",
+        witness, top);
     setenv("WITNESS_TRIAL", "told", 1);
 }
 

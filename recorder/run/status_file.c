@@ -23,7 +23,7 @@ static char *written(const char *path, size_t *size)
     size_t length = 0, kept = 0;
     ssize_t got = 0;
     while (bytes && length < (size_t)found.st_size
-           && (got = read(file, bytes + length, (size_t)found.st_size - length)) > 0)
+        && (got = read(file, bytes + length, (size_t)found.st_size - length)) > 0)
         length += (size_t)got;
     close(file);
     for (size_t at = 0; at < length; at++)
@@ -67,8 +67,7 @@ static void read_parts(struct status *status, long process, char *parts)
     else
         add_bare(status, process, *started ? started : name, strcmp(loaded, LOADED_WITHOUT_MEMORY) == 0);
     if (counts)
-        ADD(status->failed, status->failures, status->failed_room) =
-            (struct failed){process, copy(name), copy(counts)};
+        ADD(status->failed, status->failures, status->failed_room) = (struct failed){process, copy(name), copy(counts)};
 }
 
 /* Whether it is a process's: its letter, its number in so many digits, and a blank. */

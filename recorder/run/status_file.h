@@ -29,11 +29,11 @@ struct status {
     size_t failures, failed_room;
     struct bare *bare;
     size_t bares, bare_room;
-    long *loaded;  /* the processes that have the recorder */
+    long *loaded; /* the processes that have the recorder */
     size_t loads, loaded_room;
     char **object; /* names by which objects were loaded or opened; ? where there were too many */
     size_t objects, object_room;
-    char **past;   /* libraries that were opened so that their calls go past the recorder */
+    char **past; /* libraries that were opened so that their calls go past the recorder */
     size_t pasts, past_room;
     bool has_semaphores; /* they were waited for, and not recorded */
 };

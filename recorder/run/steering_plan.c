@@ -61,13 +61,13 @@ static void fill_chain(struct plan_chain *chain, const struct planned_place *pla
 
 static bool are_of_one_place(const struct plan_order *one, const struct plan_order *other)
 {
-    return memcmp(&one->hold, &other->hold, sizeof one->hold) == 0 && memcmp(&one->ask, &other->ask, sizeof one->ask) == 0;
+    return memcmp(&one->hold, &other->hold, sizeof one->hold) == 0
+        && memcmp(&one->ask, &other->ask, sizeof one->ask) == 0;
 }
 
 static bool are_equal(const struct plan_order *one, const struct plan_order *other)
 {
-    return are_of_one_place(one, other)
-        && memcmp(&one->hold_lock, &other->hold_lock, sizeof one->hold_lock) == 0
+    return are_of_one_place(one, other) && memcmp(&one->hold_lock, &other->hold_lock, sizeof one->hold_lock) == 0
         && memcmp(&one->ask_lock, &other->ask_lock, sizeof one->ask_lock) == 0;
 }
 

@@ -23,7 +23,7 @@ struct planned_place {
     struct call call[CALLS_MOST];
     size_t calls;
     struct code_place lock; /* the variable that is locked there; any lock where it has no object */
-    unsigned long at; /* in milliseconds, when a thread was there first */
+    unsigned long at;       /* in milliseconds, when a thread was there first */
 };
 
 void planned_begins(struct planned *planned);

@@ -142,5 +142,6 @@ void tell_held(struct process *process)
     end_scene(scene);
     if (!process->stream.answered)
         say(&process->run->output,
-            "%s: no thread asked for a lock meanwhile, so of what is held only what the trace has is told", process->name);
+            "%s: no thread asked for a lock meanwhile, so of what is held only what the trace has is told",
+            process->name);
 }

@@ -25,9 +25,14 @@ static const struct kind {
         ATOMICS,       /* told where none of those that wait so is told */
     } how;
 } kinds[] = {
-#define TEXTS(...) (const char *const[]){__VA_ARGS__, NULL}
+#define TEXTS(...)                                                                                                     \
+    (const char *const[])                                                                                              \
+    {                                                                                                                  \
+        __VA_ARGS__, NULL                                                                                              \
+    }
     {"locks of Rust's std", "^libstd-[0-9a-f]+\\.so$",
-        TEXTS("library/std/src/", "3std3sys4sync5mutex5futex", "3std3sys4sync6rwlock5futex", "11futex_mutex5Mutex"), ALWAYS},
+        TEXTS("library/std/src/", "3std3sys4sync5mutex5futex", "3std3sys4sync6rwlock5futex", "11futex_mutex5Mutex"),
+        ALWAYS},
     {"locks of Go", NULL, TEXTS("Go buildinf:"), ALWAYS},
     [PYTHON] = {"locks of Python", "^libpython[0-9.a-z]*\\.so", TEXTS("PyThread_acquire_lock"), BY_SEMAPHORES},
     {"locks of Java", "^libjvm\\.so", TEXTS(NULL), BY_SEMAPHORES},
@@ -44,14 +49,12 @@ static const struct kind {
     {"critical sections of clang's OpenMP", NULL, TEXTS("__kmpc_critical"), ALWAYS},
     {"semaphores of C++20", NULL, TEXTS("18__atomic_semaphore", "18counting_semaphore"), OF_ATOMICS},
     {"latches of C++20", NULL, TEXTS("NKSt5latch", "__15latch"), OF_ATOMICS},
-    {"barriers of C++20", NULL, TEXTS("17__barrier_phase_t", "14__tree_barrier", "14__barrier_base"),
-        OF_ATOMICS},
+    {"barriers of C++20", NULL, TEXTS("17__barrier_phase_t", "14__tree_barrier", "14__barrier_base"), OF_ATOMICS},
     {"waits for atomics of C++20", NULL, TEXTS("__atomic_wait_address", "18__waiter_pool_base", "__libcpp_atomic_wait"),
         ATOMICS},
     {"locks of tokio", NULL, TEXTS("4sync15batch_semaphore9Semaphore", "src/sync/batch_semaphore.rs"), ALWAYS},
     {"absl::Mutex", "^libabsl_synchronization\\.so", TEXTS("AbslInternalPerThreadSemWait"), ALWAYS},
-    {"locks of folly", "^libfolly\\.so", TEXTS("5folly6detail13futexWaitImpl", "5folly15SharedMutexImpl"),
-        ALWAYS},
+    {"locks of folly", "^libfolly\\.so", TEXTS("5folly6detail13futexWaitImpl", "5folly15SharedMutexImpl"), ALWAYS},
     {"QMutex", "^libQt[0-9]Core[a-z]*\\.so", TEXTS("6QMutex4lockEv", "11QBasicMutex12lockInternalEv"), ALWAYS},
     {"locks of GAsyncQueue", NULL, TEXTS("g_async_queue_lock"), ALWAYS},
     {"more objects than there is room for", "^[" STATUS_MORE_OBJECTS "]$", TEXTS(NULL), ALWAYS},
@@ -63,7 +66,8 @@ enum { KINDS = sizeof kinds / sizeof *kinds };
  * The C library's own, C++'s, the compiler's and the recorder have none that count; GLib and OpenMP have, for whoever calls
  * them.
  */
-static const char plain[] = "^(ld-linux-x86-64|lib(c|m|dl|rt|pthread|resolv|gcc_s|stdc\\+\\+|c\\+\\+|c\\+\\+abi|glib-2[.]0|gomp|omp|"
+static const char plain[] =
+    "^(ld-linux-x86-64|lib(c|m|dl|rt|pthread|resolv|gcc_s|stdc\\+\\+|c\\+\\+|c\\+\\+abi|glib-2[.]0|gomp|omp|"
     "omp5|iomp5)|recorder)\\.so";
 
 /* What is looked for, and what was found of it. */
@@ -150,7 +154,7 @@ static bool has_found(const struct look *look, int how)
 }
 
 /* The list, which it frees, with what is named after it: a text of one's own. */
-static char *and(char *list, const char *what)
+static char * and (char *list, const char *what)
 {
     char *longer = say_text("%s%s%s", list, *list ? ", " : "", what);
     free(list);

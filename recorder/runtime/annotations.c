@@ -10,10 +10,7 @@
 static __thread struct request asked __attribute__((tls_model("initial-exec")));
 static __thread bool asks __attribute__((tls_model("initial-exec")));
 
-static enum class class_of(int how)
-{
-    return how == WITNESS_MUTEX ? SPIN : TOLD_RWLOCK;
-}
+static enum class class_of(int how) { return how == WITNESS_MUTEX ? SPIN : TOLD_RWLOCK; }
 
 static enum mode mode_of(int how)
 {
@@ -110,9 +107,18 @@ EXPORT void witness_recorder_destroyed(const volatile void *lock)
 }
 
 /* The calls that tell what is done there, and those that tell where that is. */
-EXPORT void witness_recorder_asked(const volatile void *lock, int how) { ask(lock, how, CALLER); }
-EXPORT void witness_recorder_tried(const volatile void *lock, int how) { try(lock, how, CALLER); }
-EXPORT void witness_recorder_released(const volatile void *lock) { release(lock, CALLER); }
+EXPORT void witness_recorder_asked(const volatile void *lock, int how)
+{
+    ask(lock, how, CALLER);
+}
+EXPORT void witness_recorder_tried(const volatile void *lock, int how)
+{
+    try(lock, how, CALLER);
+}
+EXPORT void witness_recorder_released(const volatile void *lock)
+{
+    release(lock, CALLER);
+}
 EXPORT void witness_recorder_asked_at(const volatile void *lock, int how, unsigned place)
 {
     ask(lock, how, site_or(place, CALLER));

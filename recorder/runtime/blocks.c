@@ -310,7 +310,7 @@ static void look_for_origin(void *argument)
     uint32_t takers[DEPTH_MOST] = {0};
     if (!takers_learnt(taking->caller, depth, takers))
         return;
-    ENTERS_OR(return);
+    ENTERS_OR return;
     taking->origin = origin_met(takers);
 }
 
@@ -322,7 +322,7 @@ static COLD uint32_t new_origin(uintptr_t pc, uintptr_t stack, uintptr_t base)
 {
     struct taking taking = {{pc, stack, base}, 0};
     int before = errno;
-    GOES_INSIDE_OR(HERE, return 0);
+    GOES_INSIDE_OR(HERE) return 0;
     aside(look_for_origin, &taking);
     errno = before;
     return taking.origin;
@@ -357,8 +357,8 @@ EXPORT void witness_block_goes(void *from)
 }
 
 /* It lets the block grow or shrink, by that function: it keeps its callers, and its locks where it stays at its place. */
-EXPORT void *witness_block_moves(
-    void *from, size_t size, uintptr_t pc, uintptr_t stack, uintptr_t base, void *(*move)(void *, size_t))
+EXPORT void *witness_block_moves(void *from, size_t size, uintptr_t pc, uintptr_t stack, uintptr_t base,
+    void *(*move)(void *, size_t))
 {
     if (!are_kept() || !from) {
         void *taken = move(from, size);

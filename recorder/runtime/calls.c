@@ -3,8 +3,14 @@
  */
 #include "ways.h"
 
-static int mutex_lock(void *mutex) { return real.pthread_mutex_lock(mutex); }
-static int mutex_try(void *mutex) { return real.pthread_mutex_trylock(mutex); }
+static int mutex_lock(void *mutex)
+{
+    return real.pthread_mutex_lock(mutex);
+}
+static int mutex_try(void *mutex)
+{
+    return real.pthread_mutex_trylock(mutex);
+}
 
 /*
  * A robust mutex that can't be recovered is left as taken by a try (glibc), so that others wait for it for good. It isn't
@@ -17,15 +23,42 @@ static int mutex_look(void *mutex)
     return UNLIKELY(robust->__data.__kind & ROBUST) ? EBUSY : real.pthread_mutex_trylock(mutex);
 }
 
-static int mutex_timed(void *mutex, const struct timespec *limit) { return real.pthread_mutex_timedlock(mutex, limit); }
-static int read_lock(void *lock) { return real.pthread_rwlock_rdlock(lock); }
-static int read_try(void *lock) { return real.pthread_rwlock_tryrdlock(lock); }
-static int read_timed(void *lock, const struct timespec *limit) { return real.pthread_rwlock_timedrdlock(lock, limit); }
-static int write_lock(void *lock) { return real.pthread_rwlock_wrlock(lock); }
-static int write_try(void *lock) { return real.pthread_rwlock_trywrlock(lock); }
-static int write_timed(void *lock, const struct timespec *limit) { return real.pthread_rwlock_timedwrlock(lock, limit); }
-static int spin_lock(void *lock) { return real.pthread_spin_lock(lock); }
-static int spin_try(void *lock) { return real.pthread_spin_trylock(lock); }
+static int mutex_timed(void *mutex, const struct timespec *limit)
+{
+    return real.pthread_mutex_timedlock(mutex, limit);
+}
+static int read_lock(void *lock)
+{
+    return real.pthread_rwlock_rdlock(lock);
+}
+static int read_try(void *lock)
+{
+    return real.pthread_rwlock_tryrdlock(lock);
+}
+static int read_timed(void *lock, const struct timespec *limit)
+{
+    return real.pthread_rwlock_timedrdlock(lock, limit);
+}
+static int write_lock(void *lock)
+{
+    return real.pthread_rwlock_wrlock(lock);
+}
+static int write_try(void *lock)
+{
+    return real.pthread_rwlock_trywrlock(lock);
+}
+static int write_timed(void *lock, const struct timespec *limit)
+{
+    return real.pthread_rwlock_timedwrlock(lock, limit);
+}
+static int spin_lock(void *lock)
+{
+    return real.pthread_spin_lock(lock);
+}
+static int spin_try(void *lock)
+{
+    return real.pthread_spin_trylock(lock);
+}
 
 /* Spin locks have no such call: here it is a loop of tries. */
 static int spin_timed(void *lock, const struct timespec *limit)
@@ -54,19 +87,30 @@ static int posix(int answer)
 static int c11(int answer)
 {
     switch (answer) {
-    case 0: return thrd_success;
-    case ENOMEM: return thrd_nomem;
-    case ETIMEDOUT: return thrd_timedout;
-    case EBUSY: return thrd_busy;
-    default: return thrd_error;
+    case 0:
+        return thrd_success;
+    case ENOMEM:
+        return thrd_nomem;
+    case ETIMEDOUT:
+        return thrd_timedout;
+    case EBUSY:
+        return thrd_busy;
+    default:
+        return thrd_error;
     }
 }
 
 /* The calls that ask for a lock of that way and may block, those that try, and those that release. */
 #define LOCK_CALL(name, type, way, answered)                                                                           \
-    EXPORT int name(type *lock) { return answered(acquire(&(way), (void *)lock)); }
+    EXPORT int name(type *lock)                                                                                        \
+    {                                                                                                                  \
+        return answered(acquire(&(way), (void *)lock));                                                                \
+    }
 #define TRY_CALL(name, type, way, answered)                                                                            \
-    EXPORT int name(type *lock) { return answered(acquire_at_once(&(way), (void *)lock, CALLER)); }
+    EXPORT int name(type *lock)                                                                                        \
+    {                                                                                                                  \
+        return answered(acquire_at_once(&(way), (void *)lock, CALLER));                                                \
+    }
 #define UNLOCK_CALL(name, type, real_call, answered)                                                                   \
     EXPORT int name(type *lock)                                                                                        \
     {                                                                                                                  \
@@ -115,16 +159,16 @@ UNLOCK_CALL(pthread_spin_unlock, pthread_spinlock_t, real.pthread_spin_unlock(lo
 
 TIMED_CALL(pthread_mutex_timedlock, pthread_mutex_t, mutex_way, posix, real.pthread_mutex_timedlock(lock, limit),
     const struct timespec *limit)
-TIMED_CALL(pthread_mutex_clocklock, pthread_mutex_t, mutex_way, posix,
-    real.pthread_mutex_clocklock(lock, clock, limit), clockid_t clock, const struct timespec *limit)
+TIMED_CALL(pthread_mutex_clocklock, pthread_mutex_t, mutex_way, posix, real.pthread_mutex_clocklock(lock, clock, limit),
+    clockid_t clock, const struct timespec *limit)
 TIMED_CALL(mtx_timedlock, mtx_t, mutex_way, c11, real.pthread_mutex_timedlock((pthread_mutex_t *)lock, limit),
     const struct timespec *limit)
-TIMED_CALL(pthread_rwlock_timedrdlock, pthread_rwlock_t, read_way, posix,
-    real.pthread_rwlock_timedrdlock(lock, limit), const struct timespec *limit)
+TIMED_CALL(pthread_rwlock_timedrdlock, pthread_rwlock_t, read_way, posix, real.pthread_rwlock_timedrdlock(lock, limit),
+    const struct timespec *limit)
 TIMED_CALL(pthread_rwlock_clockrdlock, pthread_rwlock_t, read_way, posix,
     real.pthread_rwlock_clockrdlock(lock, clock, limit), clockid_t clock, const struct timespec *limit)
-TIMED_CALL(pthread_rwlock_timedwrlock, pthread_rwlock_t, write_way, posix,
-    real.pthread_rwlock_timedwrlock(lock, limit), const struct timespec *limit)
+TIMED_CALL(pthread_rwlock_timedwrlock, pthread_rwlock_t, write_way, posix, real.pthread_rwlock_timedwrlock(lock, limit),
+    const struct timespec *limit)
 TIMED_CALL(pthread_rwlock_clockwrlock, pthread_rwlock_t, write_way, posix,
     real.pthread_rwlock_clockwrlock(lock, clock, limit), clockid_t clock, const struct timespec *limit)
 

@@ -37,7 +37,7 @@ COLD static bool room_made(struct thread *thread)
 {
     if (thread->room == HELD_MOST)
         return false;
-    ENTERS_OR(return false);
+    ENTERS_OR return false;
     struct block *block = free_blocks ? free_blocks : table(sizeof *block);
     if (!block)
         return false;
@@ -51,7 +51,7 @@ COLD static bool room_made(struct thread *thread)
 COLD static void give_room_back(struct thread *thread)
 {
     struct block *block = (struct block *)((char *)thread->held - offsetof(struct block, held));
-    ENTERS_OR(return);
+    ENTERS_OR return;
     block->next = free_blocks;
     free_blocks = block;
     thread->held = thread->few;
@@ -105,8 +105,7 @@ bool chain_opens(uintptr_t stack)
 /* A lock that is held may be asked for again: a recursive mutex, and a rwlock that is held shared, shared. */
 static bool may_recur(const struct held *held, const struct request *request)
 {
-    return request->mode == SHARED ? held->mode == SHARED
-                                   : held->mode == EXCLUSIVE && request->lock->recursive;
+    return request->mode == SHARED ? held->mode == SHARED : held->mode == EXCLUSIVE && request->lock->recursive;
 }
 
 /* It tells something new, or is repeated for so long that it counts as a wait. */
@@ -199,8 +198,13 @@ static void touch(const void *address, enum class class)
 bool request_begins(struct request *request, const void *address, enum class class, enum mode mode,
     struct caller caller, enum asking asking)
 {
-    *request = (struct request){.thread = &self, .address = address, .caller = caller, .class = class, .mode = (uint8_t)mode,
-        .tried = asking == TRIES, .timed = asking == ASKS_FOR_A_TIME};
+    *request = (struct request){.thread = &self,
+        .address = address,
+        .caller = caller,
+        .class = class,
+        .mode = (uint8_t)mode,
+        .tried = asking == TRIES,
+        .timed = asking == ASKS_FOR_A_TIME};
     if (UNLIKELY(is_asleep()))
         return false;
     struct lock *lock = is_open(&self) && (request->place = plain_place(caller.pc)) ? lock_at(address) : NULL;
@@ -248,12 +252,13 @@ static inline void add_held(struct request *request)
             write_given_up(request);
         thread->unseen++;
         errand_is_cut(thread);
-        ENTERS_OR(return);
+        ENTERS_OR return;
         count_missed(MISSED_HELD);
         return;
     }
     struct held *held = &thread->held[thread->count];
-    held_fill(held, request->lock, request->place, locks_with(locks_held(thread), request->lock, request->mode), request->mode);
+    held_fill(held, request->lock, request->place, locks_with(locks_held(thread), request->lock, request->mode),
+        request->mode);
     held->lost = atomic_load_explicit(&request->lock->lost, memory_order_relaxed);
     held->tried = request->tried;
     held->stack = (uint16_t)request->stack;
@@ -422,8 +427,13 @@ static void open_wait(void *argument)
  */
 bool wait_begins(struct request *request, const void *address, bool asks_again, struct caller caller)
 {
-    *request = (struct request){.thread = &self, .address = address, .caller = caller, .class = MUTEX, .mode = EXCLUSIVE,
-        .ends_wait = true, .asks_again = asks_again};
+    *request = (struct request){.thread = &self,
+        .address = address,
+        .caller = caller,
+        .class = MUTEX,
+        .mode = EXCLUSIVE,
+        .ends_wait = true,
+        .asks_again = asks_again};
     if (is_asleep())
         return false;
     if (releases_simply(address) && plain_place(caller.pc))

@@ -74,8 +74,8 @@ struct wit_line {
  * links, and where ROOM isn't greater than COUNT. The buffers don't overlap. Neither pointer is NULL, even where the count
  * is 0.
  */
-size_t wit_condensed_ask(struct wit_condensed *sets, const struct wit_link *links, size_t count, uint32_t lock, uint16_t type,
-    bool waits, struct wit_line *lines, size_t room);
+size_t wit_condensed_ask(struct wit_condensed *sets, const struct wit_link *links, size_t count, uint32_t lock,
+    uint16_t type, bool waits, struct wit_line *lines, size_t room);
 
 /* The lines that wit_condensed_ask gives for the same question. Nothing changes. */
 size_t wit_condensed_lines(const struct wit_condensed *sets, const struct wit_link *links, size_t count, uint32_t lock,

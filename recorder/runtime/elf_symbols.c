@@ -40,7 +40,7 @@ static const void *part(const struct elf *elf, uint64_t offset, uint64_t size)
  * Whether the file has the program headers that stand in memory: it is the object's, and no other one was put in its place.
  * They are read, not mapped: another file may have holes that the disk has no room for.
  */
-static bool is_file_of(int file, const ElfW(Phdr) *segments, uint32_t count)
+static bool is_file_of(int file, const ElfW(Phdr) * segments, uint32_t count)
 {
     enum { SEGMENTS_MOST = 64 };
     static ElfW(Phdr) found[SEGMENTS_MOST];
@@ -51,7 +51,7 @@ static bool is_file_of(int file, const ElfW(Phdr) *segments, uint32_t count)
         && pread(file, found, bytes, (off_t)header.e_phoff) == (ssize_t)bytes && memcmp(found, segments, bytes) == 0;
 }
 
-void elf_opens(struct elf *elf, const char *path, const ElfW(Phdr) *segments, uint32_t count)
+void elf_opens(struct elf *elf, const char *path, const ElfW(Phdr) * segments, uint32_t count)
 {
     struct stat found;
     int file = open(path, O_RDONLY | O_CLOEXEC | O_NONBLOCK);
@@ -64,7 +64,7 @@ void elf_opens(struct elf *elf, const char *path, const ElfW(Phdr) *segments, ui
     close(file);
 }
 
-static const ElfW(Shdr) *symbol_section(const struct elf *elf, const ElfW(Shdr) *sections, uint32_t count)
+static const ElfW(Shdr) * symbol_section(const struct elf *elf, const ElfW(Shdr) * sections, uint32_t count)
 {
     const ElfW(Shdr) *best = NULL;
     for (uint32_t i = 0; i < count; i++)
@@ -89,14 +89,14 @@ static bool found_in_file(struct elf *elf)
     return elf->strings && elf->table_count > 0 && elf->table_count < UINT32_MAX;
 }
 
-uintptr_t dynamic_word(const ElfW(Dyn) *entry, ElfW(Sxword) tag)
+uintptr_t dynamic_word(const ElfW(Dyn) * entry, ElfW(Sxword) tag)
 {
     while (entry->d_tag != tag && entry->d_tag != DT_NULL)
         entry++;
     return entry->d_tag == tag ? entry->d_un.d_val : 0;
 }
 
-const void *dynamic_pointer(const ElfW(Dyn) *entries, ElfW(Sxword) tag, uintptr_t bias)
+const void *dynamic_pointer(const ElfW(Dyn) * entries, ElfW(Sxword) tag, uintptr_t bias)
 {
     uintptr_t address = dynamic_word(entries, tag);
     return (const void *)(address && address < bias ? address + bias : address);
@@ -132,7 +132,7 @@ static bool found_in_memory(struct elf *elf)
     return elf->table && elf->strings && elf->table_count > 0;
 }
 
-static bool is_kept(const ElfW(Sym) *symbol, int kind)
+static bool is_kept(const ElfW(Sym) * symbol, int kind)
 {
     return ELF64_ST_TYPE(symbol->st_info) == (kind == FUNCTIONS ? STT_FUNC : STT_OBJECT)
         && symbol->st_shndx != SHN_UNDEF && symbol->st_size > 0;

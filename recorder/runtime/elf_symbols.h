@@ -37,9 +37,9 @@ enum { VARIABLES, FUNCTIONS, KINDS };
 struct elf {
     const char *bytes; /* the file, which stays mapped; NULL where it wasn't read */
     size_t size;
-    uintptr_t bias;    /* from addresses as the file counts them to those in memory */
-    const ElfW(Dyn) *dynamic; /* what the dynamic linker goes by, in memory; NULL where there is none */
-    const ElfW(Sym) *table;
+    uintptr_t bias;            /* from addresses as the file counts them to those in memory */
+    const ElfW(Dyn) * dynamic; /* what the dynamic linker goes by, in memory; NULL where there is none */
+    const ElfW(Sym) * table;
     uint64_t table_count;
     const char *strings;
     uint64_t strings_size;
@@ -54,14 +54,14 @@ bool file_marked(const char *path, struct file_mark *mark);
  * Reads the object's file: at once, since later the program may not be allowed to open it. It is opened and closed, so
  * this is only done where the process has no lock of fcntl on it. Left out where its program headers aren't these.
  */
-void elf_opens(struct elf *elf, const char *path, const ElfW(Phdr) *segments, uint32_t count);
+void elf_opens(struct elf *elf, const char *path, const ElfW(Phdr) * segments, uint32_t count);
 
 /*
  * The word of that tag among the dynamic linker's, 0 where there is none; and what it points to. Most objects have addresses
  * there, some what is to be added to where they begin.
  */
-uintptr_t dynamic_word(const ElfW(Dyn) *entries, ElfW(Sxword) tag);
-const void *dynamic_pointer(const ElfW(Dyn) *entries, ElfW(Sxword) tag, uintptr_t bias);
+uintptr_t dynamic_word(const ElfW(Dyn) * entries, ElfW(Sxword) tag);
+const void *dynamic_pointer(const ElfW(Dyn) * entries, ElfW(Sxword) tag, uintptr_t bias);
 
 /* The symbol that the address is in, NULL where there is none; of several, the first in the object's table. */
 const struct symbol *elf_symbol(struct elf *elf, uint64_t address, int kind);

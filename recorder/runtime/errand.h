@@ -17,8 +17,12 @@
  * the lock, and the first bits of `how`, which are its mode and whether it was tried.
  */
 enum { PLACE_BITS = 17, HELD_BITS = 9, LATER_BITS = 6 };
-enum { RELEASE_PLACE = SERIAL_BITS, RELEASE_LEFT = RELEASE_PLACE + PLACE_BITS, RELEASE_LATER = RELEASE_LEFT + HELD_BITS,
-    RELEASE_HOW = RELEASE_LATER + LATER_BITS };
+enum {
+    RELEASE_PLACE = SERIAL_BITS,
+    RELEASE_LEFT = RELEASE_PLACE + PLACE_BITS,
+    RELEASE_LATER = RELEASE_LEFT + HELD_BITS,
+    RELEASE_HOW = RELEASE_LATER + LATER_BITS
+};
 _Static_assert(PLACES < 1 << PLACE_BITS && HELD_MOST <= 1 << HELD_BITS && RELEASE_HOW == 60, "a number has room for it");
 
 /* How many releases there are of the errand of a thread that holds something; RELEASES_KEPT where some aren't kept. */

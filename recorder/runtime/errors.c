@@ -50,7 +50,7 @@ static COLD void tell(enum lock_error error, struct lock *lock, uint32_t place)
     static const char *const words[] = {EACH_ERROR(WORD_OF)};
     if (!is_new(error, place))
         return;
-    SEATED_OR(&self, return);
+    SEATED_OR(&self) return;
     uint32_t number = lock_number(&self, lock), site = number ? place_number(place) : 0;
     if (number != 0)
         write_line(WORD_ERROR " %s %u %u %u", words[error], self.seat, number, site);
@@ -66,7 +66,7 @@ static void tell_met(void *argument)
 {
     const struct met *it = argument;
     uint32_t place = place_of(it->caller);
-    ENTERS_OR(return);
+    ENTERS_OR return;
     struct lock *lock = lock_at(it->address);
     if (lock)
         tell(it->error, lock, place);
@@ -75,7 +75,7 @@ static void tell_met(void *argument)
 void error_at(enum lock_error error, const void *address, struct caller caller)
 {
     struct met it = {error, address, caller};
-    GOES_INSIDE_OR(caller.stack, return);
+    GOES_INSIDE_OR(caller.stack) return;
     aside(tell_met, &it);
 }
 
@@ -101,7 +101,7 @@ void error_of_freed(struct lock *lock)
 static void tell_reread(void *argument)
 {
     const struct request *request = argument;
-    ENTERS_OR(return);
+    ENTERS_OR return;
     count_missed(MISSED_REREADS);
     if (request->lock->type->class != TOLD_RWLOCK)
         tell(ERROR_REREAD, request->lock, request->place);
@@ -110,14 +110,14 @@ static void tell_reread(void *argument)
 COLD void error_of_reread(struct request *request)
 {
     const pthread_rwlock_t *lock = (const void *)atomic_load(&request->lock->address);
-    if (request->lock->type->class == TOLD_RWLOCK
-        || lock->__data.__flags == PTHREAD_RWLOCK_PREFER_WRITER_NONRECURSIVE_NP)
+    if (request->lock->type->class == TOLD_RWLOCK || lock->__data.__flags == PTHREAD_RWLOCK_PREFER_WRITER_NONRECURSIVE_NP)
         aside(tell_reread, request);
 }
 
 void error_of_wait(const pthread_mutex_t *mutex, struct caller caller)
 {
-    if (mutex->__data.__lock == 0 || ((mutex->__data.__kind & 3) != PTHREAD_MUTEX_ADAPTIVE_NP && mutex->__data.__owner != 0
+    if (mutex->__data.__lock == 0
+        || ((mutex->__data.__kind & 3) != PTHREAD_MUTEX_ADAPTIVE_NP && mutex->__data.__owner != 0
             && mutex->__data.__owner != gettid()))
         error_at(ERROR_WAITED, mutex, caller);
 }
@@ -125,7 +125,7 @@ void error_of_wait(const pthread_mutex_t *mutex, struct caller caller)
 static void tell_held(void *unused)
 {
     (void)unused;
-    ENTERS_OR(return);
+    ENTERS_OR return;
     for (uint32_t i = 0; i < self.count; i++)
         if (stands_for_lock(&self.held[i]) && !is_robust(self.held[i].lock))
             tell(ERROR_ENDED, self.held[i].lock, self.held[i].place);

@@ -22,13 +22,14 @@ int32_t lock_holder(const struct lock *lock)
     pthread_rwlock_t rwlock;
     if (lock->type->class == MUTEX && lock_read(lock, &mutex, sizeof mutex))
         return mutex.__data.__lock == 0 ? 0 : mutex.__data.__owner;
-    return lock->type->class == RWLOCK && lock_read(lock, &rwlock, sizeof rwlock) ? (int32_t)rwlock.__data.__cur_writer : 0;
+    return lock->type->class == RWLOCK && lock_read(lock, &rwlock, sizeof rwlock) ? (int32_t)rwlock.__data.__cur_writer
+                                                                                  : 0;
 }
 
 static void write_answer(struct thread *thread)
 {
     int32_t holder;
-    SEATED_OR(thread, return);
+    SEATED_OR(thread) return;
     write_line(WORD_ANSWER);
     for (uint32_t at = 0; at < LOCKS_ALIVE; at++) {
         struct lock *lock = lock_held_from(&at, &holder);
@@ -43,7 +44,7 @@ COLD void answer(struct thread *thread)
 {
     if (!stream_is_asked())
         return;
-    ENTERS_OR(return);
+    ENTERS_OR return;
     if (!stream_is_asked())
         return;
     write_answer(thread);

@@ -13,7 +13,10 @@
 extern _Atomic uint32_t judge_news;
 
 /* Whether there may be a judge, who is wanted though nobody asks for the program's lines. */
-static inline bool judge_is_there(void) { return true; }
+static inline bool judge_is_there(void)
+{
+    return true;
+}
 bool judge_is_wanted(void);
 void judge_wants(void); /* the program's own wish */
 /* There is no memory for the tables; the recorder is awake from here on; a child of fork begins anew; the process ends. */
@@ -50,12 +53,26 @@ static inline void judge_looks(void)
 
 #else
 
-static inline bool judge_is_there(void) { return false; }
-static inline bool judge_is_wanted(void) { return false; }
-static inline void judge_lacks_memory(void) {}
-static inline void judge_begins(void) {}
-static inline void judge_forked(void) {}
-static inline void judge_ends(void) {}
+static inline bool judge_is_there(void)
+{
+    return false;
+}
+static inline bool judge_is_wanted(void)
+{
+    return false;
+}
+static inline void judge_lacks_memory(void)
+{
+}
+static inline void judge_begins(void)
+{
+}
+static inline void judge_forked(void)
+{
+}
+static inline void judge_ends(void)
+{
+}
 static inline void judge_made(const struct thread *thread, const struct lock *lock)
 {
     (void)thread, (void)lock;
@@ -80,12 +97,29 @@ static inline void judge_released(const struct thread *thread, uint32_t lock, ui
 {
     (void)thread, (void)lock, (void)mode;
 }
-static inline void judge_missed(enum missed what) { (void)what; }
-static inline bool judge_watches_waits(void) { return false; }
-static inline bool judge_sees_circle(const struct request *request) { return (void)request, false; }
-static inline void judge_waits(void *request) { (void)request; }
-static inline void judge_tells(struct caller caller) { (void)caller; }
-static inline void judge_looks(void) {}
+static inline void judge_missed(enum missed what)
+{
+    (void)what;
+}
+static inline bool judge_watches_waits(void)
+{
+    return false;
+}
+static inline bool judge_sees_circle(const struct request *request)
+{
+    return (void)request, false;
+}
+static inline void judge_waits(void *request)
+{
+    (void)request;
+}
+static inline void judge_tells(struct caller caller)
+{
+    (void)caller;
+}
+static inline void judge_looks(void)
+{
+}
 
 #endif
 

@@ -47,7 +47,10 @@ static struct other glib[GLIB_COUNT], openmp[OPENMP_COUNT];
 
 /* The ways of calls without an answer, and of tries that answer 0 where the lock isn't free. No call has a time limit. */
 #define WAY(library, lock_name, try_name)                                                                              \
-    static int library##_lock(void *lock) { return REAL(by_address, library, lock_name)(lock), 0; }                    \
+    static int library##_lock(void *lock)                                                                              \
+    {                                                                                                                  \
+        return REAL(by_address, library, lock_name)(lock), 0;                                                          \
+    }                                                                                                                  \
     static int library##_try(void *lock)                                                                               \
     {                                                                                                                  \
         return REAL(answered_by_address, library, try_name)(lock) ? 0 : EBUSY;                                         \
@@ -57,7 +60,8 @@ static struct other glib[GLIB_COUNT], openmp[OPENMP_COUNT];
         (void)unused;                                                                                                  \
         return library##_lock(lock);                                                                                   \
     }                                                                                                                  \
-    static const struct way library##_way = {SPIN, EXCLUSIVE, library##_lock, library##_try, library##_timed, library##_try}
+    static const struct way library##_way = {SPIN, EXCLUSIVE, library##_lock, library##_try, library##_timed,          \
+        library##_try}
 
 WAY(glib, g_mutex_lock, g_mutex_trylock);
 WAY(openmp, omp_set_lock, omp_test_lock);
@@ -71,9 +75,16 @@ WAY(openmp, omp_set_lock, omp_test_lock);
     }
 #define MAKES(library, name) AND_THEN(library, name, lock_made(lock, SPIN, CALLER))
 #define DESTROYS(library, name) AND_THEN(library, name, lock_gone(lock))
-#define ASKS_FOR(library, name) static void own_##name(void *lock) { acquire(&library##_way, lock); }
+#define ASKS_FOR(library, name)                                                                                        \
+    static void own_##name(void *lock)                                                                                 \
+    {                                                                                                                  \
+        acquire(&library##_way, lock);                                                                                 \
+    }
 #define TRIES_FOR(library, name)                                                                                       \
-    static int own_##name(void *lock) { return acquire_at_once(&library##_way, lock, CALLER) == 0; }
+    static int own_##name(void *lock)                                                                                  \
+    {                                                                                                                  \
+        return acquire_at_once(&library##_way, lock, CALLER) == 0;                                                     \
+    }
 #define RELEASES(library, name)                                                                                        \
     static void own_##name(void *lock)                                                                                 \
     {                                                                                                                  \

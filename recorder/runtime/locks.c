@@ -170,8 +170,10 @@ static struct name *name_for(struct type *type, uintptr_t address, const struct 
     if (!name)
         return NULL;
     names_taken++;
-    *name = (struct name){
-        .variable = variable, .number = ++type->names_made, .recursive = lock->recursive, .shared = lock->shared};
+    *name = (struct name){.variable = variable,
+        .number = ++type->names_made,
+        .recursive = lock->recursive,
+        .shared = lock->shared};
     return name;
 }
 
@@ -340,7 +342,7 @@ static void come(void *argument)
     /* This comes before the search for the lock's object, since it looks for objects that are new. */
     places_of(it->caller, wanted.places);
     int kind = kind_at(it->address, it->class);
-    ENTERS_OR(return);
+    ENTERS_OR return;
     it->lock = lock_at(it->address);
     if (it->lock && it->met)
         return;
@@ -369,17 +371,17 @@ COLD struct lock *lock_met(const void *address, enum class class, struct caller 
 void lock_made_as(const void *address, enum class class, struct caller caller, const char *type)
 {
     struct coming it = {address, class, caller, false, type, NULL};
-    GOES_INSIDE_OR(caller.stack, return);
+    GOES_INSIDE_OR(caller.stack) return;
     aside(come, &it);
 }
 
 /* The lock there was destroyed. */
 void lock_gone(const void *address)
 {
-    GOES_INSIDE_OR(HERE, return);
+    GOES_INSIDE_OR(HERE) return;
     if (!lock_at(address))
         return;
-    ENTERS_OR(return);
+    ENTERS_OR return;
     struct lock *lock = lock_at(address);
     if (lock)
         forget(lock, is_free(lock));
@@ -420,7 +422,7 @@ static void free_locks_in(void *argument)
     const struct block *block = argument;
     uintptr_t at = block->from;
     struct lock *lock;
-    ENTERS_OR(return);
+    ENTERS_OR return;
     while ((lock = lock_in(&at, block->end, UINT32_MAX)) != NULL) {
         error_of_freed(lock);
         forget(lock, is_free(lock));
@@ -436,7 +438,7 @@ void locks_freed(const void *block)
     if (at > atomic_load_explicit(&highest, memory_order_relaxed)
         || end <= atomic_load_explicit(&lowest, memory_order_relaxed) || LIKELY(!lock_in(&at, end, UINT32_MAX)))
         return;
-    GOES_INSIDE_OR(HERE, return);
+    GOES_INSIDE_OR(HERE) return;
     aside(free_locks_in, &(struct block){at, end});
 }
 
@@ -458,8 +460,8 @@ void locks_left(uintptr_t from, uintptr_t to, uint32_t youngest)
 {
     if (pass_over(from, to) >= to)
         return;
-    GOES_INSIDE_OR(HERE, return);
-    ENTERS_OR(return);
+    GOES_INSIDE_OR(HERE) return;
+    ENTERS_OR return;
     for (struct lock *lock; (lock = lock_in(&from, to, youngest)) != NULL;)
         forget(lock, false);
 }
@@ -478,6 +480,6 @@ void object_gone(uintptr_t from, uintptr_t to)
 /* The program has closed a library. */
 void library_closed(void)
 {
-    GOES_INSIDE_OR(HERE, return);
+    GOES_INSIDE_OR(HERE) return;
     objects_look();
 }

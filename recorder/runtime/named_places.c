@@ -111,8 +111,8 @@ EXPORT unsigned witness_recorder_place(const char *path, unsigned line, const ch
     uint32_t number = in && by ? place_at_pc(site_pc(in, line, by)) : 0;
     if (number)
         return number;
-    GOES_INSIDE_OR(HERE, return 0);
-    ENTERS_OR(return 0);
+    GOES_INSIDE_OR(HERE) return 0;
+    ENTERS_OR return 0;
     return site_made(file, line, function);
 }
 

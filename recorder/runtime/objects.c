@@ -17,10 +17,10 @@
 enum { OBJECTS = 1024, NAMES_BYTES = 1 << 18 };
 
 struct object {
-    bool closed;    /* it is loaded no longer */
-    bool seen;      /* in the walk that goes on */
+    bool closed; /* it is loaded no longer */
+    bool seen;   /* in the walk that goes on */
     uintptr_t from, to;
-    const char *name;   /* as the linker calls it */
+    const char *name; /* as the linker calls it */
     const char *path;
     const char *called; /* of the program, where it was started by a link of another name; else NULL */
     struct file_mark file;
@@ -34,8 +34,8 @@ struct object {
 struct loaded {
     uintptr_t from, to, bias;
     const char *name;
-    const ElfW(Dyn) *dynamic;
-    const ElfW(Phdr) *segments; /* NULL where its file isn't to be opened */
+    const ElfW(Dyn) * dynamic;
+    const ElfW(Phdr) * segments; /* NULL where its file isn't to be opened */
     uint32_t segment_count;
 };
 
@@ -222,8 +222,9 @@ static void take_in(const struct walk *walk)
     }
     for (uint32_t i = 1; i <= objects_met; i++) {
         struct dl_find_object found;
-        if (!objects[i].seen && !(find_object && find_object((void *)objects[i].from, &found) == 0
-                                    && found.dlfo_link_map->l_ld == objects[i].elf.dynamic))
+        if (!objects[i].seen
+            && !(find_object && find_object((void *)objects[i].from, &found) == 0
+                && found.dlfo_link_map->l_ld == objects[i].elf.dynamic))
             close_object(&objects[i]);
     }
     for (uint32_t i = 0; i < walk->count; i++)
@@ -248,7 +249,7 @@ static void name_program(void)
 /* A walk that was overtaken by a later one tells nothing more. */
 static void take_newer(const struct walk *walk)
 {
-    ENTERS_OR(return);
+    ENTERS_OR return;
     if (walk->changes <= atomic_load(&changes_seen))
         return;
     bool first = objects_met == 0;

@@ -249,8 +249,7 @@ void places_closed(uintptr_t from, uintptr_t to)
 static _Unwind_Reason_Code keep_frame(struct _Unwind_Context *context, void *argument)
 {
     struct stack *stack = argument;
-    struct frame frame = {
-        _Unwind_GetIP(context), _Unwind_GetCFA(context), _Unwind_GetGR(context, FRAME_POINTER), true};
+    struct frame frame = {_Unwind_GetIP(context), _Unwind_GetCFA(context), _Unwind_GetGR(context, FRAME_POINTER), true};
     if (stack->count == 0 && (frame.pc != stack->wanted.pc || frame.stack != stack->wanted.stack))
         return _URC_NO_REASON;
     if (frame.pc == 0)
@@ -339,7 +338,7 @@ COLD static void unwind(struct caller caller, struct stack *stack)
     bool blind = stack->count < FRAMES && !has_tables(last);
     if (!objects_are_found())
         objects_look();
-    ENTERS_OR(return);
+    ENTERS_OR return;
     if (blind && !is_complete(stack))
         object_ends_stacks(object_of(last - 1, true));
     for (uint32_t i = 0; i + 1 < stack->count; i++)
@@ -382,9 +381,8 @@ static uintptr_t pair_pc(uint32_t library, uint32_t rest)
 /* Makes the place that stands for the two. Without room for it, the second one. */
 COLD static uint32_t pair_made(uint32_t library, uint32_t rest)
 {
-    ENTERS_OR(return rest);
-    uint32_t number
-        = place_made(pair_pc(library, rest), &(struct place){.name = "", .library = library, .rest = rest});
+    ENTERS_OR return rest;
+    uint32_t number = place_made(pair_pc(library, rest), &(struct place){.name = "", .library = library, .rest = rest});
     return number ? number : rest;
 }
 

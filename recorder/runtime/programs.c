@@ -114,8 +114,8 @@ static COLD void shell_begins(uintptr_t stack)
     start();
     if (getenv("LD_PRELOAD") && getenv("RECORDER_DIRECTORY"))
         return;
-    GOES_INSIDE_OR(stack, return);
-    ENTERS_OR(return);
+    GOES_INSIDE_OR(stack) return;
+    ENTERS_OR return;
     count_failure(FAILED_BARE);
 }
 

@@ -98,8 +98,7 @@ static inline void held_has_stack(struct held *held, uint32_t stack)
  */
 static inline bool goes_inside(struct thread *thread, uintptr_t stack)
 {
-    if (UNLIKELY(thread->state != OPEN
-            || thread->lost_seen != atomic_load_explicit(&lost_total, memory_order_relaxed)))
+    if (UNLIKELY(thread->state != OPEN || thread->lost_seen != atomic_load_explicit(&lost_total, memory_order_relaxed)))
         return false;
     thread->state = stack;
     atomic_signal_fence(memory_order_seq_cst);

@@ -100,10 +100,10 @@ static void find_functions(struct other_library *library, const char *path)
 /* What an object says of itself. */
 struct dynamic {
     uintptr_t base;
-    const ElfW(Dyn) *entries;
-    const ElfW(Sym) *symbols;
+    const ElfW(Dyn) * entries;
+    const ElfW(Sym) * symbols;
     const char *strings;
-    const ElfW(Rela) *words, *calls;
+    const ElfW(Rela) * words, *calls;
     size_t words_count, calls_count, relative_count;
     uintptr_t kept_from, kept_to; /* what can't be written any more once the object is ready */
     bool is_open;
@@ -153,7 +153,8 @@ static bool is_ready(const struct dynamic *object)
     if (object->kept_from >= object->kept_to)
         return true;
     return syscall(SYS_futex, &nobody_waits, FUTEX_WAKE_OP | FUTEX_PRIVATE_FLAG, 0, 0, object->kept_from,
-        FUTEX_OP(FUTEX_OP_ADD, 0, FUTEX_OP_CMP_EQ, 0)) < 0;
+               FUTEX_OP(FUTEX_OP_ADD, 0, FUTEX_OP_CMP_EQ, 0))
+        < 0;
 }
 
 static bool is_code_of(const struct dl_phdr_info *info, uintptr_t address)
@@ -177,12 +178,12 @@ static bool may_be_written(struct dynamic *object, uintptr_t word)
 }
 
 static void rebind_word(struct dynamic *object, const struct dl_phdr_info *info, struct other_library *library,
-    const ElfW(Rela) *entry)
+    const ElfW(Rela) * entry)
 {
     uint64_t kind = ELF64_R_TYPE(entry->r_info);
     const ElfW(Sym) *symbol = &object->symbols[ELF64_R_SYM(entry->r_info)];
-    if ((kind != R_X86_64_JUMP_SLOT && kind != R_X86_64_GLOB_DAT && kind != R_X86_64_64) || symbol->st_shndx != SHN_UNDEF
-        || entry->r_addend != 0)
+    if ((kind != R_X86_64_JUMP_SLOT && kind != R_X86_64_GLOB_DAT && kind != R_X86_64_64)
+        || symbol->st_shndx != SHN_UNDEF || entry->r_addend != 0)
         return;
     struct other *function = library->functions, *end = function + library->count;
     while (function < end && strcmp(function->name, object->strings + symbol->st_name) != 0)

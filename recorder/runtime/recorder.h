@@ -84,7 +84,7 @@ enum { SEATS = 256, TYPES = 1023, LOCKS = 65536 };
 #define PLACES (1u << 16)
 #define HELD_MOST 512u
 #define HELD_FEW 8u
-#define KNOWN 32u /* requests that a thread remembers as known */
+#define KNOWN 32u         /* requests that a thread remembers as known */
 #define RELEASES_KEPT 32u /* of an errand, fewer than that are kept */
 #define DEPTH_MOST 4u
 #define FRAMES_MOST 16u
@@ -118,18 +118,18 @@ struct caller {
 
 /* A return address that was met. */
 struct place {
-    _Atomic uintptr_t pc; /* or PC_CLOSED; of a place that stands for two (places.c) no address */
-    uintptr_t closed;  /* the address, while its object is closed */
-    int32_t step;      /* from the caller's stack pointer to that of its own caller; or one of the three below */
-    uint16_t object;   /* the number of the object, 0 where there is none */
+    _Atomic uintptr_t pc;   /* or PC_CLOSED; of a place that stands for two (places.c) no address */
+    uintptr_t closed;       /* the address, while its object is closed */
+    int32_t step;           /* from the caller's stack pointer to that of its own caller; or one of the three below */
+    uint16_t object;        /* the number of the object, 0 where there is none */
     _Atomic uint8_t detour; /* why a call from here takes longer; 0 of most places */
     bool takes_memory : 1;  /* the function takes memory for others */
     bool leaves_base : 1;   /* up to here the function leaves its caller's frame pointer where it was */
-    uint64_t offset;   /* the address as the object's file counts it */
-    const char *name;  /* of the function, or empty */
-    uint64_t within;   /* the address as the function counts it */
+    uint64_t offset;        /* the address as the object's file counts it */
+    const char *name;       /* of the function, or empty */
+    uint64_t within;        /* the address as the function counts it */
     uint32_t library, rest; /* the two places that it stands for; 0 of most places */
-    const char *file; /* of a place by name, whose line is `offset`; NULL of any other */
+    const char *file;       /* of a place by name, whose line is `offset`; NULL of any other */
     struct marks marks;
     struct marks releases; /* set where a release by another thread than the holder was written */
 };
@@ -155,8 +155,8 @@ struct type {
     uint64_t part;     /* one more than the locks' offset in their blocks; 0 where that doesn't count */
     uint32_t places[DEPTH_MOST];
     uint32_t uses[DEPTH_MOST]; /* of a first use, where `places` are those that take the block; else 0 */
-    bool crowded;      /* there were too many such offsets: the type counts as one without them */
-    struct type *next; /* in its bucket */
+    bool crowded;              /* there were too many such offsets: the type counts as one without them */
+    struct type *next;         /* in its bucket */
     struct marks marks;
     uint32_t names_made;
     struct name *free, **free_end; /* names of locks that are gone, the longest gone first; where the next one goes */
@@ -171,45 +171,45 @@ struct name {
     uint32_t number;    /* among the names of the type, from 1 on */
     bool recursive;     /* as the lock is, and the next */
     bool shared;
-    struct name *next;  /* among the free ones of the type */
+    struct name *next; /* among the free ones of the type */
     struct marks marks;
 };
 
 struct lock {
-    _Atomic uintptr_t address; /* 0 where the record is free */
+    _Atomic uintptr_t address;   /* 0 where the record is free */
     _Atomic(struct lock *) next; /* in its bucket, or among the free records */
     struct type *type;
     struct name *name;
-    _Atomic uint32_t lost;     /* how often it was given up by other means than an unlock of its holder */
-    uint32_t serial;           /* no other lock of this process has it, before or after */
+    _Atomic uint32_t lost; /* how often it was given up by other means than an unlock of its holder */
+    uint32_t serial;       /* no other lock of this process has it, before or after */
     bool recursive;
-    bool shared;               /* other processes may have it, too */
-    bool loses;                /* an unlock by another thread than the holder succeeds */
-    _Atomic bool left_alone;   /* a semaphore that was made as a lock is, and isn't one */
+    bool shared;             /* other processes may have it, too */
+    bool loses;              /* an unlock by another thread than the holder succeeds */
+    _Atomic bool left_alone; /* a semaphore that was made as a lock is, and isn't one */
     struct marks marks;
 };
 
 /* A lock that a thread holds. */
 struct held {
     struct lock *lock;
-    uint64_t locks;   /* stands for the single locks of the chain up to this one, and their modes */
-    uint32_t lost;    /* the lock's count when it was acquired */
+    uint64_t locks; /* stands for the single locks of the chain up to this one, and their modes */
+    uint32_t lost;  /* the lock's count when it was acquired */
     uint32_t place;
     union {
         struct {
             uint32_t count; /* acquisitions not yet released */
             uint8_t mode : 3;
             uint8_t tried : 1;
-            uint8_t has_under : 1;   /* `under` is a lock's: that one was held when this was acquired, and released first */
-            uint8_t before_fork : 1; /* it was acquired by the parent process */
+            uint8_t has_under : 1; /* `under` is a lock's: that one was held when this was acquired, and released first */
+            uint8_t before_fork : 1;  /* it was acquired by the parent process */
             uint8_t has_releases : 1; /* of the oldest one: since it was acquired, others were released (errand.h) */
-            uint8_t written;  /* bits of the two below */
-            uint16_t stack;   /* of the acquisition; 0 where it has none */
+            uint8_t written;          /* bits of the two below */
+            uint16_t stack;           /* of the acquisition; 0 where it has none */
         };
         uint64_t how; /* all of these: they are read at once, and what was written in parts can't be without a wait */
     };
     uint32_t number;
-    uint32_t under;   /* the serial number of the lock that was released last before it */
+    uint32_t under; /* the serial number of the lock that was released last before it */
 };
 /* What `how` is of a lock that was acquired once, in that mode, and isn't written. */
 #define HOW_ONCE(mode) ((uint64_t)(mode) << 32 | 1)
@@ -245,27 +245,27 @@ struct thread {
     uint32_t count;
     uint32_t room;
     uint32_t lost_seen;
-    uint32_t unseen;  /* acquisitions that the chain had no room for */
+    uint32_t unseen; /* acquisitions that the chain had no room for */
     struct held *held;
-    uint32_t seat;    /* 0 for none */
+    uint32_t seat; /* 0 for none */
     uint32_t last_seat;
-    uint32_t written; /* locks in the chain, and requests, that stand in the stream */
-    uint32_t asked;   /* the number of the lock whose request is pending there, 0 for none */
+    uint32_t written;     /* locks in the chain, and requests, that stand in the stream */
+    uint32_t asked;       /* the number of the lock whose request is pending there, 0 for none */
     bool asks_for_a_time; /* the request that was written last ends by itself */
     struct held few[HELD_FEW];
-    uintptr_t own_stack; /* where the stack of the recorder's own begins that it is on; 0 for none (aside.c) */
-    bool keeps_signals;  /* no handler runs on that one */
-    bool looks;          /* at what is loaded, at its next call: it has opened a library */
+    uintptr_t own_stack;   /* where the stack of the recorder's own begins that it is on; 0 for none (aside.c) */
+    bool keeps_signals;    /* no handler runs on that one */
+    bool looks;            /* at what is loaded, at its next call: it has opened a library */
     uintptr_t other_stack; /* where its stack for handlers begins, as it was set last, and how long that is */
     size_t other_size;
     uint32_t serial; /* no other thread of this process has it; above SERIAL_BITS, how many threads it has made, 7 at most */
     struct birth birth;
-    bool has_pairs;  /* that stand in a stream */
+    bool has_pairs; /* that stand in a stream */
     struct repeated repeated;
     struct waiter *waiter; /* where it waits for a condition (waiters.c), NULL else */
-    uint32_t releases;      /* that are kept of its errand, where the oldest lock says so; RELEASES_KEPT where some aren't (errand.h) */
+    uint32_t releases; /* that are kept of its errand, where the oldest lock says so; RELEASES_KEPT where some aren't (errand.h) */
     uint64_t release[RELEASES_KEPT + 1]; /* from 1 on */
-    uint64_t known[KNOWN];  /* requests that tell nothing new, each by what stands for its locks (quick.h) */
+    uint64_t known[KNOWN];       /* requests that tell nothing new, each by what stands for its locks (quick.h) */
     uint64_t known_after[KNOWN]; /* and the last one after each number of locks, up to KNOWN */
 };
 
@@ -277,19 +277,19 @@ struct request {
     struct held *again; /* where the thread holds the lock already */
     struct caller caller;
     uint32_t place;
-    uint32_t stack;     /* 0 where it has none */
+    uint32_t stack; /* 0 where it has none */
     enum class class;
     uint8_t mode;
     bool tried, timed;
-    bool repeats;       /* it has a time limit, and counts as one without (repeats.c) */
-    bool ends_wait;     /* for the mutex of a condition, when the wait for it ends */
-    bool asks_again;    /* it does so, and isn't refused */
-    bool patient;       /* not written though it may block: to be written after a second */
-    bool again_refused; /* the thread holds the lock, and it isn't one to be acquired again */
+    bool repeats;           /* it has a time limit, and counts as one without (repeats.c) */
+    bool ends_wait;         /* for the mutex of a condition, when the wait for it ends */
+    bool asks_again;        /* it does so, and isn't refused */
+    bool patient;           /* not written though it may block: to be written after a second */
+    bool again_refused;     /* the thread holds the lock, and it isn't one to be acquired again */
     bool waited_for_itself; /* that was written */
-    bool has_errand;    /* while its pairs are told: their thread's errand is the last one in the stream */
-    bool pending;       /* the stream has it */
-    bool got;           /* it has ended with the lock */
+    bool has_errand;        /* while its pairs are told: their thread's errand is the last one in the stream */
+    bool pending;           /* the stream has it */
+    bool got;               /* it has ended with the lock */
     uint32_t number;
 };
 
@@ -382,11 +382,11 @@ struct real {
 #define HERE ((uintptr_t)__builtin_frame_address(0) + 16)
 #define EXPORT __attribute__((visibility("default")))
 /* To ask for the frame's address makes it one with a frame pointer: what is saved there is the caller's. */
-#define CALLER                                                                                             \
+#define CALLER                                                                                                         \
     ((struct caller){(uintptr_t)__builtin_return_address(0), HERE, *(const uintptr_t *)__builtin_frame_address(0)})
 extern struct real real;
 extern __thread struct thread self __attribute__((tls_model("initial-exec")));
-extern bool all_slow;   /* every call takes the long way */
+extern bool all_slow; /* every call takes the long way */
 /* The first page of the stream, as long as not every call takes the long way in any case. */
 enum { PAGE_BYTES = 4096 };
 extern char asked_page[PAGE_BYTES];
@@ -396,12 +396,12 @@ static inline bool takes_long_way(void)
 {
     return *(const volatile char *)&asked_page[ASKED_AT] & 1;
 }
-extern const char *skipped; /* patterns of functions that say nothing about a call, parted by colons */
-extern uint32_t depth;  /* how many callers name a type */
+extern const char *skipped;   /* patterns of functions that say nothing about a call, parted by colons */
+extern uint32_t depth;        /* how many callers name a type */
 extern char program_name[64]; /* as it was when the program began */
-extern uint32_t life;   /* how many forks lie between the recorded program's start and this process */
+extern uint32_t life;         /* how many forks lie between the recorded program's start and this process */
 extern bool watches_free;
-extern _Atomic bool has_handlers; /* the program was given a handler of signals */
+extern _Atomic bool has_handlers;     /* the program was given a handler of signals */
 extern _Atomic bool has_small_stacks; /* and one that has a stack of its own */
 
 /*
@@ -413,7 +413,8 @@ bool is_aside(uintptr_t stack); /* whether this thread's own stack has the addre
 void aside_forked(void);
 /* Signals of faults come as they do without the recorder: the program may see to memory of its own by them. */
 #define SIGNAL_BIT(number) ((uint64_t)1 << ((number)-1))
-#define FAULTS (SIGNAL_BIT(SIGSEGV) | SIGNAL_BIT(SIGBUS) | SIGNAL_BIT(SIGFPE) | SIGNAL_BIT(SIGILL) | SIGNAL_BIT(SIGTRAP))
+#define FAULTS                                                                                                         \
+    (SIGNAL_BIT(SIGSEGV) | SIGNAL_BIT(SIGBUS) | SIGNAL_BIT(SIGFPE) | SIGNAL_BIT(SIGILL) | SIGNAL_BIT(SIGTRAP))
 void change_signals(int how, uint64_t wanted, uint64_t *before); /* which signals wait, as sigprocmask does */
 
 /* Nothing is recorded, and may never be: calls are passed on at once. */
@@ -446,18 +447,17 @@ static inline void goes_out_again(const bool *inside)
 
 /*
  * To the end of the block the thread holds the mutex; or it is inside the recorder, and its calls aren't recorded. Where
- * that can't be, OTHERWISE comes.
+ * that can't be, the statement after it comes.
  */
-#define ENTERS_OR(otherwise)                                                                                           \
+#define ENTERS_OR                                                                                                      \
     __attribute__((cleanup(leaves_again), unused)) bool entered = recorder_enters();                                   \
-    if (!entered)                                                                                                      \
-    otherwise
-#define GOES_INSIDE_OR(stack, otherwise)                                                                               \
+    if (!entered)
+#define GOES_INSIDE_OR(stack)                                                                                          \
     __attribute__((cleanup(goes_out_again), unused)) bool inside = goes_far_inside(stack);                             \
-    if (!inside)                                                                                                       \
-    otherwise
+    if (!inside)
 
-void *mapped(size_t bytes, int protection, int how, int file, off_t from); /* as mmap, which takes no other memory; or NULL */
+/* As mmap, which takes no other memory; or NULL. */
+void *mapped(size_t bytes, int protection, int how, int file, off_t from);
 void *table(size_t bytes); /* memory of zeros, of which only what is touched is taken; NULL where there is none */
 void table_goes(void *memory, size_t bytes);
 
@@ -685,7 +685,7 @@ void repeat_ends(struct thread *thread);
 /* single_pairs.c */
 bool single_pairs_made(void);
 void single_pairs_forked(void);
-void single_pairs_end(void); /* no further pairs are told of; under the mutex, between lines */
+void single_pairs_end(void);               /* no further pairs are told of; under the mutex, between lines */
 void pairs_noted(struct request *request); /* before the real call, of a thread that holds something */
 /* Whether a request tells nothing new that has no time limit; if so, it may be remembered by what stands for its locks. */
 bool request_is_known(struct thread *thread, const struct lock *lock, enum mode mode, uint64_t locks);
@@ -719,8 +719,8 @@ void errors_begin(void);
 void errors_of_thread(void); /* its end is noticed */
 void error_at(enum lock_error error, const void *address, struct caller caller);
 void error_if_held(enum lock_error error, const void *address, struct caller caller); /* by this thread, since the fork */
-void error_of_freed(struct lock *lock); /* inside, before its record is given back */
-void error_of_reread(struct request *request); /* of a rwlock that this thread reads already */
+void error_of_freed(struct lock *lock);                                 /* inside, before its record is given back */
+void error_of_reread(struct request *request);                          /* of a rwlock that this thread reads already */
 void error_of_wait(const pthread_mutex_t *mutex, struct caller caller); /* where this thread isn't known to hold it */
 
 /* seats.c */
@@ -744,17 +744,19 @@ void write_request(struct request *request);
 void write_request_of(struct request *request); /* of a thread that waits for a condition; under the mutex */
 void write_acquired(struct request *request, struct held *held);
 void write_given_up(void *request); /* a `struct request`, of which the thread counts: it is called aside, too */
-void write_left(void *thread); /* a `struct thread`, as above */
+void write_left(void *thread);      /* a `struct thread`, as above */
 void write_unlock(struct thread *thread, struct held *held);
 void write_waits_again(struct request *request);
 void write_goes_on(const struct request *request);
 void write_released_by_another(struct thread *thread, struct lock *lock, uint32_t place);
-/* To the end of the block the thread has a seat. Where the stream has no room, or there is no seat, OTHERWISE comes. */
-#define SEATED_OR(sitter, otherwise)                                                                                   \
-    __attribute__((cleanup(seat_goes_again))) struct thread *seated                                                    \
-        = stream_has_room() && seat_taken(sitter) ? (sitter) : NULL;                                                   \
-    if (!seated)                                                                                                       \
-    otherwise
+/*
+ * To the end of the block the thread has a seat. Where the stream has no room, or there is no seat, the statement after it
+ * comes.
+ */
+#define SEATED_OR(sitter)                                                                                              \
+    __attribute__((cleanup(seat_goes_again))) struct thread *seated =                                                  \
+        stream_has_room() && seat_taken(sitter) ? (sitter) : NULL;                                                     \
+    if (!seated)
 
 static inline void seat_goes_again(struct thread *const *seated)
 {
@@ -807,7 +809,8 @@ bool is_readable(const void *address);
 bool is_all_readable(const void *from, size_t bytes);
 
 /* status.c */
-int status_file(const char *name, int how, mode_t mode); /* in the folder of the streams; negative where it can't be opened */
+int status_file(const char *name, int how,
+    mode_t mode);                  /* in the folder of the streams; negative where it can't be opened */
 bool file_may_have(uint64_t size); /* a file that grows over a limit ends the program */
 void status_made(void);
 void status_begins(void); /* this process takes its slot, as one that has the recorder */

@@ -29,7 +29,7 @@ static COLD void note_unseen(uintptr_t stack)
     static _Atomic bool noted;
     if (atomic_load_explicit(&noted, memory_order_relaxed))
         return;
-    GOES_INSIDE_OR(stack, return);
+    GOES_INSIDE_OR(stack) return;
     atomic_store(&noted, true);
     status_notes(STATUS_SEMAPHORES, "");
 }
@@ -56,15 +56,21 @@ static int ends(struct request *request, sem_t *semaphore, int answer)
     return answer;
 }
 
-static int semaphore_lock(void *semaphore) { return real.sem_wait(semaphore) == 0 ? 0 : errno; }
-static int semaphore_look(void *semaphore) { return real.sem_trywait(semaphore) == 0 ? 0 : EBUSY; }
+static int semaphore_lock(void *semaphore)
+{
+    return real.sem_wait(semaphore) == 0 ? 0 : errno;
+}
+static int semaphore_look(void *semaphore)
+{
+    return real.sem_trywait(semaphore) == 0 ? 0 : EBUSY;
+}
 static int semaphore_timed(void *semaphore, const struct timespec *limit)
 {
     return real.sem_timedwait(semaphore, limit) == 0 ? 0 : errno;
 }
 
-static const struct way semaphore_way = {
-    SEMAPHORE, EXCLUSIVE, semaphore_lock, semaphore_look, semaphore_timed, semaphore_look};
+static const struct way semaphore_way = {SEMAPHORE, EXCLUSIVE, semaphore_lock, semaphore_look, semaphore_timed,
+    semaphore_look};
 
 EXPORT int sem_init(sem_t *semaphore, int shared, unsigned value)
 {

@@ -33,8 +33,7 @@ static void declare(struct thread *thread, struct lock *lock)
     lock_number_for_pair(thread, lock);
 }
 
-static void put_pair(const struct request *request, const struct held *held, const struct single_pair *pair,
-    bool again)
+static void put_pair(const struct request *request, const struct held *held, const struct single_pair *pair, bool again)
 {
     struct thread *thread = request->thread;
     line_put(WORD_PAIR " %u %u %u %u %u", thread->seat, (uint32_t)gettid(), atomic_load(&threads_made_and_joined),
@@ -42,7 +41,10 @@ static void put_pair(const struct request *request, const struct held *held, con
     put_lock(thread, held->lock, held->mode == SHARED, held->tried ? "t" : "");
     put_letters(is_acquired_under(held, request->lock) ? "u" : "");
     put_lock(thread, request->lock, request->mode == SHARED,
-        request->ends_wait ? "w" : request->repeats ? "p" : request->timed ? "l" : "");
+        request->ends_wait     ? "w"
+            : request->repeats ? "p"
+            : request->timed   ? "l"
+                               : "");
     put_letters(again ? "r" : "");
     put_letters(pair->thread[1] & MORE_THREADS ? "m" : "");
     put_letters(request->has_errand ? PAIR_HAS_ERRAND : "");

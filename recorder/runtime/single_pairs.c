@@ -188,7 +188,7 @@ static COLD void note_all(void *argument)
 {
     struct request *request = argument;
     request->has_errand = false;
-    ENTERS_OR(return);
+    ENTERS_OR return;
     for (uint32_t i = 0; i < request->thread->count; i++)
         note_pair(request, i);
 }

@@ -27,8 +27,8 @@ enum { BESIDES = 4, PAIR_TRIES = 128 };
 #define MORE_THREADS (1u << 31)
 
 struct single_pair {
-    _Atomic uint64_t key; /* 0 where there is none */
-    _Atomic uint32_t thread[2]; /* their `serial`; 0 for none */
+    _Atomic uint64_t key;             /* 0 where there is none */
+    _Atomic uint32_t thread[2];       /* their `serial`; 0 for none */
     _Atomic uint32_t beside[BESIDES]; /* serial numbers of locks; 0 for none, with others after it */
 };
 

@@ -56,7 +56,7 @@ static uint32_t stack_found(struct caller caller, bool *is_new)
     uint32_t slot = slot_of(found, count);
     if (atomic_load(&stacks[slot].count) != 0)
         return slot + 1;
-    ENTERS_OR(return 0);
+    ENTERS_OR return 0;
     slot = slot_of(found, count);
     if (stacks[slot].count != 0)
         return slot + 1;

@@ -109,8 +109,8 @@ static bool has_room(void)
 /* False where there is no memory. Then the recorder stays off. */
 static bool tables_made(void)
 {
-    if (!has_room() || !locks_made() || !places_made() || !sites_made() || !stacks_made()
-        || !chains_made() || !single_pairs_made() || !blocks_made())
+    if (!has_room() || !locks_made() || !places_made() || !sites_made() || !stacks_made() || !chains_made()
+        || !single_pairs_made() || !blocks_made())
         return false;
     alive = table(4096);
     return alive != NULL;
@@ -327,8 +327,7 @@ static bool sizes_are_known(void)
     Dl_info of_free, of_size;
     void *size = dlsym(RTLD_DEFAULT, "malloc_usable_size");
     void *given = dlsym(RTLD_NEXT, "free");
-    return size && given && dladdr(size, &of_size) && dladdr(given, &of_free)
-        && of_size.dli_fbase == of_free.dli_fbase;
+    return size && given && dladdr(size, &of_size) && dladdr(given, &of_free) && of_size.dli_fbase == of_free.dli_fbase;
 }
 
 /* What is to be known of the process before it goes on. */

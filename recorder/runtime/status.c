@@ -50,7 +50,8 @@ static bool has_size(int file)
 {
     struct stat found;
     return fstat(file, &found) == 0
-        && (found.st_size >= STATUS_BYTES || (file_may_have(STATUS_BYTES) && posix_fallocate(file, 0, STATUS_BYTES) == 0));
+        && (found.st_size >= STATUS_BYTES
+            || (file_may_have(STATUS_BYTES) && posix_fallocate(file, 0, STATUS_BYTES) == 0));
 }
 
 static void put_at(size_t at, const char *text, size_t length)
@@ -74,8 +75,7 @@ static char *slot_of(pid_t process)
         uint64_t found = 0;
         if (!is_readable(slot))
             return NULL;
-        if (__atomic_compare_exchange_n((uint64_t *)(void *)slot, &found, mark, false, __ATOMIC_SEQ_CST,
-                __ATOMIC_SEQ_CST)
+        if (__atomic_compare_exchange_n((uint64_t *)(void *)slot, &found, mark, false, __ATOMIC_SEQ_CST, __ATOMIC_SEQ_CST)
             || found == mark) {
             slot[SLOT_BYTES - 1] = '\n';
             return slot;

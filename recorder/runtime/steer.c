@@ -80,7 +80,8 @@ bool steer_begins(void)
 static bool is_at(const struct plan_code *code, const char *file, uint32_t object, uint64_t offset)
 {
     const char *name = file ? file : object ? basename(object_path(object)) : "";
-    return *name && !file == !code->is_named && offset == code->offset && strncmp(name, code->name, sizeof code->name) == 0;
+    return *name && !file == !code->is_named && offset == code->offset
+        && strncmp(name, code->name, sizeof code->name) == 0;
 }
 
 static bool is_code(const struct place *place, const struct plan_code *code)
@@ -218,7 +219,8 @@ static bool is_waited_for(const struct standing *one, const struct thread *other
 /* Whether from the one a way leads to the last one, by who waits for whom. All on the way are let go. */
 static bool comes_round(struct standing *one, const struct standing *last, uint64_t *seen)
 {
-    FOR_EACH_STANDING(next) {
+    FOR_EACH_STANDING(next)
+    {
         uint64_t bit = (uint64_t)1 << (next - standing);
         if (next->where == AT_HOLD || (*seen & bit) || !is_waited_for(one, next->thread))
             continue;
@@ -256,11 +258,11 @@ static struct standing *stands(const struct request *request, enum where where, 
         goes_on = true;
     }
     FOR_EACH_STANDING(other)
-        if (is_met(one, other)) {
-            goes_on |= where == AT_HOLD;
-            if (other->where == AT_HOLD)
-                let_go(other);
-        }
+    if (is_met(one, other)) {
+        goes_on |= where == AT_HOLD;
+        if (other->where == AT_HOLD)
+            let_go(other);
+    }
     if (!goes_on)
         return one;
     one->thread = NULL;
@@ -301,10 +303,10 @@ static void sleep_on(_Atomic uint32_t *word, uint64_t microseconds)
 /* Of all pauses that go on, it has gone on for the longest. */
 static bool is_oldest(const struct standing *one)
 {
-    ENTERS_OR(return false);
+    ENTERS_OR return false;
     FOR_EACH_STANDING(other)
-        if (other->number != 0 && other->number < one->number)
-            return false;
+    if (other->number != 0 && other->number < one->number)
+        return false;
     return true;
 }
 
@@ -331,7 +333,7 @@ static void pauses(struct standing *one, struct budget *budget, uint32_t length)
         is_cut = !atomic_load(&one->go) && (is_in_the_way(one->thread) || all_sleep(one));
         now = milliseconds();
     }
-    ENTERS_OR(return);
+    ENTERS_OR return;
     budget->spent_ms += (uint32_t)(now - begun);
     budget->vain += !is_cut && !atomic_load(&one->go);
     one->thread = NULL;
@@ -388,7 +390,7 @@ static void write_owner(const struct request *request)
 
 void steer_waits(const struct request *request)
 {
-    ENTERS_OR(return);
+    ENTERS_OR return;
     write_owner(request);
     waiters_each(write_owner);
 }
@@ -398,7 +400,7 @@ void steer_wait_begins(const struct request *request)
     uint32_t hold, ask = arrives(request, &hold);
     if (ask == PLAN_ORDERS)
         return;
-    ENTERS_OR(return);
+    ENTERS_OR return;
     waits_at = stands(request, AT_WAIT, ask);
 }
 
@@ -418,7 +420,7 @@ void steer_wait_ends(void)
 {
     if (!waits_at)
         return;
-    ENTERS_OR(return);
+    ENTERS_OR return;
     waits_at->thread = NULL;
     waits_at = NULL;
 }
@@ -426,8 +428,8 @@ void steer_wait_ends(void)
 void steer_left(const struct thread *thread)
 {
     FOR_EACH_STANDING(one)
-        if (!thread || one->thread == thread)
-            one->thread = NULL;
+    if (!thread || one->thread == thread)
+        one->thread = NULL;
     waits_at = NULL;
 }
 

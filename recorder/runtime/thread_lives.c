@@ -79,7 +79,7 @@ struct joined {
 static void end_lives(void *argument)
 {
     const struct joined *it = argument;
-    ENTERS_OR(return);
+    ENTERS_OR return;
     for (uint32_t i = 0; i < LIVES; i++) {
         if (!is_joined(&lives[i], &it->joining))
             continue;
@@ -95,6 +95,6 @@ void order_of_joined(struct joining joining)
     struct joined it = {joining, atomic_fetch_add(&threads_made_and_joined, 1)};
     if (LIKELY(atomic_load(&lives_kept) == 0))
         return;
-    GOES_INSIDE_OR(HERE, return);
+    GOES_INSIDE_OR(HERE) return;
     aside(end_lives, &it);
 }

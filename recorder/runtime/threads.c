@@ -49,7 +49,7 @@ static struct beginning begun(struct beginning *given)
 static struct beginning *taken_by(struct caller caller, void *argument)
 {
     struct beginning *found = NULL;
-    GOES_INSIDE_OR(caller.stack, return NULL);
+    GOES_INSIDE_OR(caller.stack) return NULL;
     for (uint32_t i = 0; i < BEGINNINGS && !found; i++)
         if (!atomic_load_explicit(&beginnings[i].taken, memory_order_relaxed)
             && !atomic_exchange(&beginnings[i].taken, true))
@@ -93,8 +93,8 @@ static struct beginning *taken_by(struct caller caller, void *argument)
 #define CREATE_POSIX(function, of) real.pthread_create(thread, attributes, function, of)
 #define CREATE_C11(function, of) real.thrd_create(thread, function, of)
 CREATES(pthread_create, posix, void *,
-    (pthread_t *thread, const pthread_attr_t *attributes, void *(*routine)(void *), void *argument), CREATE_POSIX)
-CREATES(thrd_create, c11, int, (thrd_t *thread, thrd_start_t routine, void *argument), CREATE_C11)
+    (pthread_t * thread, const pthread_attr_t *attributes, void *(*routine)(void *), void *argument), CREATE_POSIX)
+CREATES(thrd_create, c11, int, (thrd_t * thread, thrd_start_t routine, void *argument), CREATE_C11)
 
 #define JOINS(name, type, answer_type)                                                                                 \
     EXPORT int name(type thread, answer_type *answered)                                                                \

@@ -80,7 +80,7 @@ void waiter_ends(struct request *request)
         self.waiter = NULL;
         return;
     }
-    ENTERS_OR(return);
+    ENTERS_OR return;
     *request = self.waiter->request;
     waiter_forgotten(&self);
 }

@@ -92,8 +92,7 @@ static __attribute__((noinline)) int acquire_slowly(const struct way *way, void 
  * The request took the quick way and isn't over: the lock wasn't free when it was tried, or the recorder has taken the call
  * for one that was left (quick_ends). Then what it got is held as after a try.
  */
-static COLD int acquire_on(const struct way *way, void *address, uintptr_t pc, uintptr_t stack, uintptr_t base,
-    int answer)
+static COLD int acquire_on(const struct way *way, void *address, uintptr_t pc, uintptr_t stack, uintptr_t base, int answer)
 {
     struct caller caller = {pc, stack, base};
     struct request request;
@@ -138,7 +137,7 @@ static __attribute__((noinline)) int acquire_from_afar(const struct way *way, vo
         held_has_stack(quick.held, met);
     int answer;
     return LIKELY(quick_call(way, address, &quick, stack, &answer)) ? answer
-                                                                   : acquire_on(way, address, pc, stack, base, answer);
+                                                                    : acquire_on(way, address, pc, stack, base, answer);
 }
 
 /* Makes the call of that way for the function's own caller, which is read where it is wanted: so it needn't be kept. */

@@ -120,8 +120,8 @@ static void chain_read(struct thread *thread)
             continue;
         held->number = number;
         chain.at[chain.count] = (uint16_t)i;
-        chain.links[chain.count++] = (struct wit_link){
-            number, (uint16_t)*mark(&held->lock->type->marks), held->tried, held->written & IS_WRITTEN};
+        chain.links[chain.count++] = (struct wit_link){number, (uint16_t)*mark(&held->lock->type->marks), held->tried,
+            held->written & IS_WRITTEN};
     }
 }
 
@@ -151,7 +151,7 @@ static void write_time(void)
 static void write_due(struct request *request)
 {
     struct thread *thread = request->thread;
-    SEATED_OR(thread, return);
+    SEATED_OR(thread) return;
     chain_read(thread);
     uint32_t number = lock_number(thread, request->lock);
     if (number == 0)
@@ -192,7 +192,7 @@ static void put_request(struct request *request)
 /* Before the real call. */
 COLD void write_request(struct request *request)
 {
-    ENTERS_OR(return);
+    ENTERS_OR return;
     put_request(request);
     waiters_written();
     /* It waits for a second by a call with a time limit, so that it can be looked at once more. */
@@ -210,7 +210,7 @@ COLD void write_request_of(struct request *request)
 /* After the real call, which got the lock. What is held isn't in the chain yet. */
 COLD void write_acquired(struct request *request, struct held *held)
 {
-    ENTERS_OR(return);
+    ENTERS_OR return;
     write_lock(request->thread, request->number);
     request->thread->asked = 0;
     held->written |= IS_WRITTEN;
@@ -234,7 +234,7 @@ static void give_up(struct thread *thread)
 COLD void write_given_up(void *argument)
 {
     struct request *request = argument;
-    ENTERS_OR(return);
+    ENTERS_OR return;
     give_up(request->thread);
     request->pending = false;
 }
@@ -243,7 +243,7 @@ COLD void write_given_up(void *argument)
 COLD void write_left(void *argument)
 {
     struct thread *thread = argument;
-    ENTERS_OR(return);
+    ENTERS_OR return;
     count_failure(FAILED_JUMPED);
     waiter_forgotten(thread);
     if (UNLIKELY(steers))
@@ -254,7 +254,7 @@ COLD void write_left(void *argument)
 /* Before the real release of all acquisitions. */
 COLD void write_unlock(struct thread *thread, struct held *held)
 {
-    ENTERS_OR(return);
+    ENTERS_OR return;
     write_entry(WORD_UNLOCK " %u %u %c", thread->seat, held->number, letter_of(held->mode));
     judge_released(thread, held->number, held->mode);
     number_stands_no_more(thread, held->number);
@@ -266,7 +266,7 @@ COLD void write_unlock(struct thread *thread, struct held *held)
  */
 COLD void write_waits_again(struct request *request)
 {
-    ENTERS_OR(return);
+    ENTERS_OR return;
     if (request->again_refused)
         count_missed(MISSED_AGAIN);
     write_due(request);
@@ -276,7 +276,7 @@ COLD void write_waits_again(struct request *request)
 COLD void write_goes_on(const struct request *request)
 {
     const struct held *held = request->again;
-    ENTERS_OR(return);
+    ENTERS_OR return;
     if ((held->written & IS_WRITTEN) && stream_has_room())
         write_line(WORD_WENT " %u %u", request->thread->seat, held->number);
 }
@@ -284,12 +284,12 @@ COLD void write_goes_on(const struct request *request)
 /* The thread releases what it doesn't hold. There is one line for each place; all are counted. */
 COLD void write_released_by_another(struct thread *thread, struct lock *lock, uint32_t place)
 {
-    ENTERS_OR(return);
+    ENTERS_OR return;
     count_missed(MISSED_RELEASES);
     uint32_t *known = place ? mark(&place_at(place)->releases) : NULL;
     if (!lock || !known || *known)
         return;
-    SEATED_OR(thread, return);
+    SEATED_OR(thread) return;
     uint32_t number = lock_number(thread, lock);
     if (number == 0)
         return;
@@ -389,8 +389,9 @@ void write_init(struct thread *thread, struct lock *lock)
 {
     struct type *type = lock->type;
     const char *const flags[] = {"", INIT_RECURSIVE, INIT_SHARED, INIT_RECURSIVE INIT_SHARED};
-    line_put(WORD_INIT " %u %s %s %u %u", thread->seat, type->class == RWLOCK || type->class == TOLD_RWLOCK ? "rw" : "mtx",
-        flags[lock->recursive + 2 * lock->shared], *mark(&type->marks), lock->name->number);
+    line_put(WORD_INIT " %u %s %s %u %u", thread->seat,
+        type->class == RWLOCK || type->class == TOLD_RWLOCK ? "rw" : "mtx", flags[lock->recursive + 2 * lock->shared],
+        *mark(&type->marks), lock->name->number);
     if (type->object)
         put_variable(type->object, atomic_load(&lock->address));
     stream_append(true);

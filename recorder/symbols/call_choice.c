@@ -108,9 +108,11 @@ static struct lines *lines_of(const struct look *look, const char *file, size_t 
 {
     struct alike *alike = lock_names_alike(symbols_lock_names(look->declared->symbols));
     /* What a line's words mean may be another thing for each place in the function. */
-    char *own = look->lock ? say_text("%s %llx", look->step->site, (unsigned long long)look->step->place->offset) : copy("");
+    char *own =
+        look->lock ? say_text("%s %llx", look->step->site, (unsigned long long)look->step->place->offset) : copy("");
     char *site = say_text("%.*s:%ld", (int)length, file, first);
-    char *key = say_text("%s\n%s\n%s\n%s", site, look->function ? look->function : "", look->word ? look->word : "\n", own);
+    char *key =
+        say_text("%s\n%s\n%s\n%s", site, look->function ? look->function : "", look->word ? look->word : "\n", own);
     size_t *number = map_add_text(&alike->by_look, key);
     if (*number == 0) {
         const char *at = source_lines_from(symbols_lines(look->declared->symbols), site);
@@ -150,8 +152,7 @@ static char *last_of_function(const char *function)
     return copy_bytes(last, strcspn(last, "<( "));
 }
 
-size_t calls_alike_before(
-    const struct declared *declared, const struct step *step, const char *function, const char *word)
+size_t calls_alike_before(const struct declared *declared, const struct step *step, const char *function, const char *word)
 {
     struct look look = {.declared = declared, .step = step, .function = function, .word = word};
     char *name = last_of_function(function);
@@ -173,8 +174,7 @@ static char *last_of_path(const char *path)
     return copy_bytes(from, (size_t)(end - from));
 }
 
-size_t locks_alike_before(
-    const struct declared *declared, const struct step *step, const struct lock_name_in_source *lock)
+size_t locks_alike_before(const struct declared *declared, const struct step *step, const struct lock_name_in_source *lock)
 {
     const char *word = lock->member ? lock->member : lock->expression;
     const char *text = step->site ? source_lines_at(symbols_lines(declared->symbols), step->site)->text : NULL;

@@ -19,11 +19,11 @@ void alike_end(struct alike *alike);
  * How many lines of the step's function, before its own one, call that function with the same word (call_words.h), which is
  * NULL where it has none. 0 where that isn't known.
  */
-size_t calls_alike_before(
-    const struct declared *declared, const struct step *step, const char *function, const char *word);
+size_t calls_alike_before(const struct declared *declared, const struct step *step, const char *function,
+    const char *word);
 
 /* How many of them name a lock by the same words as the step's line does, and make it where that one does. */
-size_t locks_alike_before(
-    const struct declared *declared, const struct step *step, const struct lock_name_in_source *lock);
+size_t locks_alike_before(const struct declared *declared, const struct step *step,
+    const struct lock_name_in_source *lock);
 
 #endif

@@ -73,7 +73,8 @@ bool entry_is_declaration(const struct entry *entry)
 {
     struct attribute attribute;
     bool is_set = false;
-    return libdw.attribute(libdw_raw(entry), ATTRIBUTE_DECLARATION, &attribute) && libdw.flag(&attribute, &is_set) == 0 && is_set;
+    return libdw.attribute(libdw_raw(entry), ATTRIBUTE_DECLARATION, &attribute) && libdw.flag(&attribute, &is_set) == 0
+        && is_set;
 }
 
 bool entry_type(const struct entry *entry, struct entry *type)
@@ -90,8 +91,8 @@ bool entry_origin(const struct entry *entry, struct entry *origin)
 {
     struct attribute attribute;
     struct entry found;
-    bool has_one = libdw.attribute(libdw_raw(entry), ATTRIBUTE_ABSTRACT_ORIGIN, &attribute) ||
-        libdw.attribute(libdw_raw(entry), ATTRIBUTE_SPECIFICATION, &attribute);
+    bool has_one = libdw.attribute(libdw_raw(entry), ATTRIBUTE_ABSTRACT_ORIGIN, &attribute)
+        || libdw.attribute(libdw_raw(entry), ATTRIBUTE_SPECIFICATION, &attribute);
     if (!has_one || !libdw.reference(&attribute, &found))
         return false;
     *origin = found;
@@ -151,8 +152,8 @@ bool entry_address(const struct entry *entry, uint64_t *address)
     struct attribute attribute, numbered;
     struct operation *operation;
     size_t operations;
-    if (!libdw.any_attribute(libdw_raw(entry), ATTRIBUTE_LOCATION, &attribute) ||
-        libdw.location(&attribute, &operation, &operations) != 0 || operations != 1)
+    if (!libdw.any_attribute(libdw_raw(entry), ATTRIBUTE_LOCATION, &attribute)
+        || libdw.location(&attribute, &operation, &operations) != 0 || operations != 1)
         return false;
     if (operation->atom == OPERATION_NUMBERED)
         return libdw.location_attribute(&attribute, operation, &numbered) == 0 && libdw.address(&numbered, address) == 0;
@@ -189,8 +190,8 @@ const char *entry_call_file(const struct entry *entry, const struct entry *unit)
     struct Dwarf_Files_s *files;
     size_t count;
     uint64_t number;
-    if (!number_of(entry, ATTRIBUTE_CALL_FILE, &number) || libdw.files(libdw_raw(unit), &files, &count) != 0 ||
-        number >= count)
+    if (!number_of(entry, ATTRIBUTE_CALL_FILE, &number) || libdw.files(libdw_raw(unit), &files, &count) != 0
+        || number >= count)
         return NULL;
     return libdw.file_of(files, (size_t)number, NULL, NULL);
 }
@@ -214,8 +215,8 @@ const char *unit_folder(const struct entry *unit)
 
 static bool is_around(enum entry_kind kind)
 {
-    return kind == ENTRY_NAMESPACE || kind == ENTRY_CLASS || kind == ENTRY_STRUCTURE || kind == ENTRY_UNION ||
-        kind == ENTRY_FUNCTION;
+    return kind == ENTRY_NAMESPACE || kind == ENTRY_CLASS || kind == ENTRY_STRUCTURE || kind == ENTRY_UNION
+        || kind == ENTRY_FUNCTION;
 }
 
 char *entry_whole_name(const struct entry *entry, const char *own)

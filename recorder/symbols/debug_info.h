@@ -87,15 +87,15 @@ const char *entry_linkage_name(const struct entry *entry);
 char *entry_whole_name(const struct entry *entry, const char *own);
 
 /* Whether it is so of any unit of compilation. */
-bool debug_info_any_unit(
-    const struct debug_info *info, bool (*is)(const struct entry *unit, const void *context), const void *context);
+bool debug_info_any_unit(const struct debug_info *info, bool (*is)(const struct entry *unit, const void *context),
+    const void *context);
 /* The unit of compilation that has the address in its code. */
 bool debug_info_unit(struct debug_info *info, uint64_t address, struct entry *unit);
 /* So many functions and blocks around an address are known at most. */
 enum { SCOPES_MOST = 48 };
 /* The function of the unit that has the address, and all that has it in there, inlined functions and blocks, inwards. */
-size_t debug_info_around(
-    struct debug_info *info, const struct entry *unit, uint64_t address, struct entry around[SCOPES_MOST]);
+size_t debug_info_around(struct debug_info *info, const struct entry *unit, uint64_t address,
+    struct entry around[SCOPES_MOST]);
 /* The source of the innermost code at the address: the file, which may begin in the unit's folder, and the line; else NULL. */
 const char *debug_info_row(const struct entry *unit, uint64_t address, uint64_t *line);
 /* The object's own name for what is at the address; NULL where it has none. */

@@ -26,7 +26,7 @@ struct debug_info {
     struct unit *unit;
     size_t units, unit_room;
     struct fixed_variable *last; /* that was asked for: many locks stand in one variable */
-    size_t last_unit; /* that had an address, where the file has no table of them */
+    size_t last_unit;            /* that had an address, where the file has no table of them */
 };
 
 /* A file that isn't a regular one isn't opened: that may wait. */
@@ -110,8 +110,8 @@ void debug_info_end(struct debug_info *info)
     free(info);
 }
 
-bool debug_info_any_unit(
-    const struct debug_info *info, bool (*is)(const struct entry *unit, const void *context), const void *context)
+bool debug_info_any_unit(const struct debug_info *info, bool (*is)(const struct entry *unit, const void *context),
+    const void *context)
 {
     for (size_t i = 0; i < info->units; i++)
         if (is(&info->unit[i].entry, context))
@@ -153,8 +153,8 @@ static unsigned column_of_row(const struct entry *unit, uint64_t address, unsign
 }
 
 /* Where the inlined function of that number was called; the innermost one is 1. */
-static unsigned column_of_call(
-    struct debug_info *info, const struct entry *unit, uint64_t address, size_t number, unsigned long line)
+static unsigned column_of_call(struct debug_info *info, const struct entry *unit, uint64_t address, size_t number,
+    unsigned long line)
 {
     struct entry around[SCOPES_MOST];
     uint64_t at, column;
@@ -174,8 +174,8 @@ unsigned debug_info_column(struct debug_info *info, uint64_t address, size_t fra
 
 static bool may_have_functions(enum entry_kind kind)
 {
-    return kind == ENTRY_NAMESPACE || kind == ENTRY_CLASS || kind == ENTRY_STRUCTURE || kind == ENTRY_UNION ||
-        kind == ENTRY_FUNCTION || kind == ENTRY_BLOCK;
+    return kind == ENTRY_NAMESPACE || kind == ENTRY_CLASS || kind == ENTRY_STRUCTURE || kind == ENTRY_UNION
+        || kind == ENTRY_FUNCTION || kind == ENTRY_BLOCK;
 }
 
 static void add_fixed(struct unit *unit, const struct entry *variable)
@@ -238,8 +238,8 @@ static bool find_inside(const struct entry *around, uint64_t address, struct ent
     return false;
 }
 
-size_t debug_info_around(
-    struct debug_info *info, const struct entry *unit, uint64_t address, struct entry around[SCOPES_MOST])
+size_t debug_info_around(struct debug_info *info, const struct entry *unit, uint64_t address,
+    struct entry around[SCOPES_MOST])
 {
     size_t functions, depth = 0;
     const struct entry *function = debug_info_functions(info, unit, &functions);

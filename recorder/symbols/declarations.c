@@ -85,8 +85,7 @@ static void read_blind(struct declared *declared, const struct line *line)
 static struct place *new_place(struct declared *declared, const struct line *line)
 {
     uint32_t number;
-    if (!field_number(line, 1, PLACE_MOST - 1, &number) || number == 0 ||
-        place_of(declared, number)->kind != PLACE_NONE) {
+    if (!field_number(line, 1, PLACE_MOST - 1, &number) || number == 0 || place_of(declared, number)->kind != PLACE_NONE) {
         declared->is_odd = true;
         return NULL;
     }
@@ -111,8 +110,8 @@ static void read_place(struct declared *declared, const struct line *line)
 static void read_either(struct declared *declared, const struct line *line)
 {
     struct place read = {.kind = PLACE_PAIR}, *place;
-    if (!field_number(line, 2, PLACE_MOST - 1, &read.library) || !field_number(line, 3, PLACE_MOST - 1, &read.rest) ||
-        place_of(declared, read.library)->kind != PLACE_CALL || place_of(declared, read.rest)->kind == PLACE_NONE) {
+    if (!field_number(line, 2, PLACE_MOST - 1, &read.library) || !field_number(line, 3, PLACE_MOST - 1, &read.rest)
+        || place_of(declared, read.library)->kind != PLACE_CALL || place_of(declared, read.rest)->kind == PLACE_NONE) {
         declared->is_odd = true;
         return;
     }
@@ -169,8 +168,8 @@ static void read_stack(struct declared *declared, const struct line *line)
 bool read_variable(const struct declared *declared, const struct line *line, unsigned field, struct variable *variable)
 {
     *variable = (struct variable){0};
-    if (!field_number(line, field, OBJECT_MOST - 1, &variable->object) ||
-        !field_hexadecimal(line, field + 1, &variable->offset))
+    if (!field_number(line, field, OBJECT_MOST - 1, &variable->object)
+        || !field_hexadecimal(line, field + 1, &variable->offset))
         return false;
     variable->name = word_at(declared, line, field + 2);
     field_hexadecimal(line, field + 3, &variable->within);
@@ -217,8 +216,8 @@ static void read_type(struct declared *declared, const struct line *line)
     uint32_t number;
     bool has_variable = field_is(line, 2, WORD_VARIABLE), has_label = field_is(line, 2, WORD_NAMED);
     struct variable variable = {0};
-    if (!field_number(line, 1, TYPE_MOST - 1, &number) || number == 0 ||
-        (has_variable && !read_variable(declared, line, 3, &variable))) {
+    if (!field_number(line, 1, TYPE_MOST - 1, &number) || number == 0
+        || (has_variable && !read_variable(declared, line, 3, &variable))) {
         declared->is_odd = true;
         return;
     }

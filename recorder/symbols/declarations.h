@@ -59,7 +59,7 @@ struct type {
     bool is_met; /* no call has made its locks: its places are those of a first use */
     struct variable variable;
     const char *label; /* the name that the program gives it; NULL of most types */
-    uint32_t column;   /* in the line at the label's end, also where the label goes without it; 0 where it isn't known */
+    uint32_t column; /* in the line at the label's end, also where the label goes without it; 0 where it isn't known */
     const char *class; /* of its first lock; NULL where there is none */
     const uint32_t *place;
     size_t count;

@@ -77,8 +77,8 @@ static bool is_of_rust(const char *mangled)
     static const char before[] = "17h";
     size_t length = strlen(mangled), end = sizeof before - 1 + HASH_DIGITS + 1;
     const char *at = length > end ? mangled + length - end : "";
-    return strncmp(at, before, sizeof before - 1) == 0 &&
-        strspn(at + sizeof before - 1, "0123456789abcdef") == HASH_DIGITS && mangled[length - 1] == 'E';
+    return strncmp(at, before, sizeof before - 1) == 0
+        && strspn(at + sizeof before - 1, "0123456789abcdef") == HASH_DIGITS && mangled[length - 1] == 'E';
 }
 
 char *demangle(const char *mangled)

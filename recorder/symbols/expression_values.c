@@ -53,8 +53,8 @@ static bool find_given(const struct entry *class, const char *name, unsigned dee
         enum entry_kind kind = entry_kind(&at);
         if (kind == ENTRY_FUNCTION && is_named(&at, name) && entry_type(&at, type))
             return true;
-        if (kind == ENTRY_BASE_CLASS && entry_type(&at, &base) && type_plain(base, &inner) &&
-            find_given(&inner.entry, name, deep + 1, type))
+        if (kind == ENTRY_BASE_CLASS && entry_type(&at, &base) && type_plain(base, &inner)
+            && find_given(&inner.entry, name, deep + 1, type))
             return true;
     }
     return false;
@@ -86,7 +86,8 @@ bool dereference(struct value *value, const char *operator)
         return false;
     if (entry_kind(&type.entry) == ENTRY_POINTER)
         return hop(value, &type.entry);
-    if (!type_is_class(&type.entry) || !find_given(&type.entry, operator, 0, &value->type) || !type_plain(value->type, &type))
+    if (!type_is_class(&type.entry) || !find_given(&type.entry, operator, 0, &value->type)
+        || !type_plain(value->type, &type))
         return false;
     return is_pointer(&type.entry) ? hop(value, &type.entry) : false;
 }

@@ -14,12 +14,12 @@ enum { PATH_MOST = 512 };
 /* What an expression is, as far as it was read. */
 struct value {
     struct entry type;
-    struct entry variable;    /* the one at its head */
-    bool is_fixed;            /* which is always at the same address */
-    bool is_element;          /* an index, or a call, was on the way */
-    unsigned hops;            /* pointers and references on the way */
-    struct plain_type owner;  /* the class that declares the first member of the path */
-    char path[PATH_MOST];     /* members, from the object on that the last hop leads to */
+    struct entry variable;   /* the one at its head */
+    bool is_fixed;           /* which is always at the same address */
+    bool is_element;         /* an index, or a call, was on the way */
+    unsigned hops;           /* pointers and references on the way */
+    struct plain_type owner; /* the class that declares the first member of the path */
+    char path[PATH_MOST];    /* members, from the object on that the last hop leads to */
 };
 
 /* Each goes a step further; false where there is none. What a pointer's operator is called is said for objects like one. */

@@ -52,7 +52,8 @@ static void read_brackets(struct before *before)
 }
 
 /* False where the source isn't there, or has fewer lines. */
-static bool before_begin(struct before *before, const struct declared *declared, const char *site, long line, size_t column)
+static bool before_begin(struct before *before, const struct declared *declared, const char *site, long line,
+    size_t column)
 {
     long first = line > LINES_ABOVE ? line - LINES_ABOVE : 1;
     char *from = say_text("%.*s:%ld", (int)(strrchr(site, ':') - site), site, first);

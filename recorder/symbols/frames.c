@@ -43,7 +43,7 @@ static bool add_place(struct gathering *gathering, const struct place *place)
         free(unknown);
     }
     for (size_t number = telling_frame(code, 0); number < code->count && gathering->count < gathering->most;
-        number = telling_frame(code, number + 1))
+         number = telling_frame(code, number + 1))
         add(gathering, code->frame[number].function, shown_line(gathering->sites, code->frame[number].site));
     return gathering->count >= gathering->most || (function && strcmp(function, "main") == 0);
 }
@@ -77,8 +77,8 @@ static struct code_place code_place_of(struct sites *sites, const struct place *
 {
     if (place->kind == PLACE_SITE) {
         const char *site = place->site->frame[0].site, *colon = strrchr(site, ':');
-        return (struct code_place){
-            texts_copy(sites->texts, site, (size_t)(colon - site)), NULL, strtoul(colon + 1, NULL, 10), true};
+        return (struct code_place){texts_copy(sites->texts, site, (size_t)(colon - site)), NULL,
+            strtoul(colon + 1, NULL, 10), true};
     }
     return place->kind == PLACE_CALL ? code_place_in(sites, place->object, place->offset) : (struct code_place){0};
 }

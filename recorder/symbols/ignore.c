@@ -14,7 +14,7 @@ struct called {
     struct names {
         const char **name;
         size_t count, room;
-    } *list;
+    } * list;
     size_t lists, list_room;
 };
 
@@ -107,8 +107,7 @@ static const struct names *names_of(const struct called *called, const char *wor
 }
 
 /* All pairs of types that the two words of a line stand for. */
-static void bless(
-    struct peace *peace, const struct called *called, const struct ignored_pair *pair, struct notes *notes)
+static void bless(struct peace *peace, const struct called *called, const struct ignored_pair *pair, struct notes *notes)
 {
     const struct names *first = names_of(called, pair->first), *second = names_of(called, pair->second);
     if (!first || !second)

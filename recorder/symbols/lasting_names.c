@@ -294,8 +294,7 @@ const char *lasting_functions(const struct declared *declared, const struct type
 struct lasting lasting_of(const struct declared *declared, const struct types *types, uint32_t number)
 {
     const struct named_type *named = &types->type[number];
-    struct making_name name = {
-        .declared = declared, .type = &declared->type[named->first], .text = copy(""), .lasts = true};
+    struct making_name name = {.declared = declared, .type = &declared->type[named->first], .text = copy(""), .lasts = true};
     begin_steps(&name);
     if (name.type->label) {
         say_label(&name);

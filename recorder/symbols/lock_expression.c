@@ -42,8 +42,8 @@ static struct span bared(struct span span)
 /* Whether all of it is one path. */
 static bool is_path(struct span span)
 {
-    return span.at < span.end && (begins_word(*span.at) || *span.at == '(') && path_begin(span.at, span.end) == span.at &&
-        (is_word_byte(span.end[-1]) || span.end[-1] == ']' || span.end[-1] == ')');
+    return span.at < span.end && (begins_word(*span.at) || *span.at == '(') && path_begin(span.at, span.end) == span.at
+        && (is_word_byte(span.end[-1]) || span.end[-1] == ']' || span.end[-1] == ')');
 }
 
 /* A path without blanks, and without `this->`. There is room for an arrow after it. */
@@ -69,8 +69,8 @@ static bool is_word_of(const char *text, const char *const *words, size_t count)
 /* How a guard is to take its lock; and what stands for no object. */
 static bool is_no_lock(const char *text)
 {
-    static const char *const words[] = {"std::adopt_lock", "std::defer_lock", "std::try_to_lock", "adopt_lock", "defer_lock",
-        "try_to_lock", "void", "NULL", "nullptr", "true", "false", "this", "sizeof", "return"};
+    static const char *const words[] = {"std::adopt_lock", "std::defer_lock", "std::try_to_lock", "adopt_lock",
+        "defer_lock", "try_to_lock", "void", "NULL", "nullptr", "true", "false", "this", "sizeof", "return"};
     return is_word_of(text, words, sizeof words / sizeof *words);
 }
 
@@ -115,7 +115,8 @@ void locked_add_arguments(struct locked *locked, struct span inside, bool all)
 /* Whether what is called so takes or makes a lock. */
 static bool is_of_locks(struct span word)
 {
-    static const char *const none[] = {"unlock", "destroy", "release", "clock_", "block", "assert", "attr", "wait", "free"};
+    static const char *const none[] = {"unlock", "destroy", "release", "clock_", "block", "assert", "attr", "wait",
+        "free"};
     static const char *const some[] = {"lock", "mutex", "guard", "acquire", "mtx", "monitor", "witness_"};
     for (size_t i = 0; i < sizeof none / sizeof *none; i++)
         if (has_part(word, none[i]))
@@ -136,7 +137,8 @@ static bool follows_arrow(const char *from, const char *at)
 /* Whether the function is one of a library's whose first argument is the lock. Any other may take several. */
 static bool takes_lock_first(struct span word)
 {
-    static const char *const begins[] = {"pthread_", "mtx_", "g_mutex_", "g_rec_mutex_", "g_rw_lock_", "omp_", "uv_", "witness_"};
+    static const char *const begins[] = {"pthread_", "mtx_", "g_mutex_", "g_rec_mutex_", "g_rw_lock_", "omp_", "uv_",
+        "witness_"};
     for (size_t i = 0; i < sizeof begins / sizeof *begins; i++)
         if ((size_t)(word.end - word.at) >= strlen(begins[i]) && strncmp(word.at, begins[i], strlen(begins[i])) == 0)
             return true;

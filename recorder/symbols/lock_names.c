@@ -107,7 +107,8 @@ static void find_member(struct lock_names *names, const struct declared *declare
     const struct locked *locked, struct lock_name_in_source *name)
 {
     struct binary *binary = object_of(declared, step->place->object)->binary;
-    struct debug_info *info = binary && step->place->kind == PLACE_CALL && locked->count > 0 ? binary_debug(binary) : NULL;
+    struct debug_info *info =
+        binary && step->place->kind == PLACE_CALL && locked->count > 0 ? binary_debug(binary) : NULL;
     if (!info)
         return;
     struct spot_of_code spot;
@@ -139,8 +140,7 @@ static void find_expression(struct lock_names *names, const struct locked *locke
 /* The text of the step's line. Of a source that was changed after the object it may be another one by now. */
 static const char *text_at(const struct declared *declared, const struct step *step)
 {
-    const struct statement *statement =
-        step->site ? source_lines_at(symbols_lines(declared->symbols), step->site) : NULL;
+    const struct statement *statement = step->site ? source_lines_at(symbols_lines(declared->symbols), step->site) : NULL;
     struct binary *binary = object_of(declared, step->place->object)->binary;
     return statement && (!binary || statement->changed <= binary_file(binary)->changed) ? statement->text : NULL;
 }
@@ -183,8 +183,7 @@ static const struct lock_name_in_source *find(struct lock_names *names, const st
     const struct step *step)
 {
     struct lock_name_in_source *name = texts_room(names->texts, sizeof *name);
-    const struct statement *statement =
-        step->site ? source_lines_at(symbols_lines(declared->symbols), step->site) : NULL;
+    const struct statement *statement = step->site ? source_lines_at(symbols_lines(declared->symbols), step->site) : NULL;
     if (!statement || !statement->text)
         return name;
     struct locked locked;

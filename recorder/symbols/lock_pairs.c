@@ -11,7 +11,7 @@ struct pair_holder {
     struct held_lock {
         uint32_t lock;
         size_t spot; /* where it was asked for last, or tried */
-    } *held;
+    } * held;
     size_t count, room;
     size_t asked_at; /* 0 where nothing is asked for */
 };

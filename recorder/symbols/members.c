@@ -15,8 +15,8 @@
 static bool find_this(const struct context *context, struct value *value)
 {
     *value = (struct value){0};
-    return (find_local(context, "this", &value->variable) || find_local(context, "__closure", &value->variable)) &&
-        entry_type(&value->variable, &value->type) && dereference(value, "operator->");
+    return (find_local(context, "this", &value->variable) || find_local(context, "__closure", &value->variable))
+        && entry_type(&value->variable, &value->type) && dereference(value, "operator->");
 }
 
 /* Of the object of the function. A lambda may have taken another one's with it. */
@@ -74,8 +74,8 @@ static bool find_named(const struct context *context, const char *name, struct v
 static size_t name_length(const char *at)
 {
     size_t length = 0;
-    while (isalnum((unsigned char)at[length]) || at[length] == '_' || (at[length] == ':' && at[length + 1] == ':') ||
-        (at[length] == ':' && length > 0 && at[length - 1] == ':'))
+    while (isalnum((unsigned char)at[length]) || at[length] == '_' || (at[length] == ':' && at[length + 1] == ':')
+        || (at[length] == ':' && length > 0 && at[length - 1] == ':'))
         length++;
     return length;
 }
@@ -83,7 +83,8 @@ static size_t name_length(const char *at)
 static bool read_expression(const struct context *context, const char *text, struct value *value, unsigned deep);
 
 /* `(*p)`, or another expression in brackets; no cast. */
-static bool read_bracket(const struct context *context, const char *at, const char *after, struct value *value, unsigned deep)
+static bool read_bracket(const struct context *context, const char *at, const char *after, struct value *value,
+    unsigned deep)
 {
     bool is_pointed = at[1] == '*', is_address = at[1] == '&';
     char *inside = copy_bytes(at + 1 + (is_pointed || is_address), (size_t)(after - at) - 2 - (is_pointed || is_address));
@@ -108,8 +109,9 @@ static bool read_head(const struct context *context, const char **at, struct val
         *at = after_bracket(*at, *at + strlen(*at));
         struct value object;
         *value = (struct value){.is_element = true};
-        is_read = *at && ((find_this(context, &object) && (*value = object, call_member(value, name))) ||
-                             (*value = (struct value){.is_element = true}, find_called(&context->unit, name, &value->type)));
+        is_read = *at
+            && ((find_this(context, &object) && (*value = object, call_member(value, name)))
+                || (*value = (struct value){.is_element = true}, find_called(&context->unit, name, &value->type)));
     } else if (length > 0) {
         is_read = find_named(context, name, value);
     }
@@ -209,7 +211,8 @@ struct member member_of(struct debug_info *info, const struct spot_of_code *spot
     struct context context;
     struct value value;
     struct plain_type type;
-    if (!context_begin(&context, info, spot) || !read_expression(&context, expression, &value, 0) || !type_plain(value.type, &type) || is_pointer(&type.entry))
+    if (!context_begin(&context, info, spot) || !read_expression(&context, expression, &value, 0)
+        || !type_plain(value.type, &type) || is_pointer(&type.entry))
         return member;
     member.size = type_size(type.entry);
     member.is_variable = value.is_fixed && value.hops == 0;

@@ -10,9 +10,9 @@
 #include "scopes.h"
 
 struct member {
-    char *name;     /* `Account::m`; of what a variable points to `journal->m`: a text of one's own. NULL where it isn't known */
-    char *identity; /* the name, with the file that declares the class or the variable: no other member has it */
-    uint64_t size;  /* of the member, in bytes; 0 where that isn't known */
+    char *name; /* `Account::m`; of what a variable points to `journal->m`: a text of one's own. NULL where it isn't known */
+    char *identity;   /* the name, with the file that declares the class or the variable: no other member has it */
+    uint64_t size;    /* of the member, in bytes; 0 where that isn't known */
     bool is_variable; /* the expression is of a variable that is always at the same address, and of no object elsewhere */
 };
 

@@ -21,10 +21,10 @@ struct writing {
     const struct making *making;
     FILE *to;
     struct notes *notes;
-    bool has_callers;  /* places are told with their threads and callers */
-    struct map spots;  /* by place, stack and thread, from 1 on */
-    struct map framed; /* by place and stack, from 1 on */
-    bool *is_named;    /* types that have their names by now, by the stream's numbers */
+    bool has_callers;           /* places are told with their threads and callers */
+    struct map spots;           /* by place, stack and thread, from 1 on */
+    struct map framed;          /* by place and stack, from 1 on */
+    bool *is_named;             /* types that have their names by now, by the stream's numbers */
     uint32_t sitter[SEAT_MOST]; /* the thread that has each seat, as the kernel counts; 0 where it isn't known */
     size_t owner[SEAT_MOST];    /* the event that tells the owner of what the seat waits for, from 1 on; 0 for none */
     struct pairs_reading pairs; /* what seats hold, where pairs of locks are noted */
@@ -263,8 +263,7 @@ static void put_init(struct writing *writing, const struct line *line)
     if (!made_lock_read(&made, line, writing->making->declared, writing->making->types))
         writing->is_odd = true;
     keep_lock(writing, &made, line);
-    if (line->count > FIELD_FLAGS
-        && memchr(line->field[FIELD_FLAGS].at, *INIT_SHARED, line->field[FIELD_FLAGS].length))
+    if (line->count > FIELD_FLAGS && memchr(line->field[FIELD_FLAGS].at, *INIT_SHARED, line->field[FIELD_FLAGS].length))
         writing->notes->has_shared = true;
     put_name(writing, &made);
     put_made(writing, &made, line);

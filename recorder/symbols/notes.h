@@ -46,8 +46,8 @@ struct frames {
 struct spot {
     const char *site;
     const char *told; /* what a report's text has in its place; NULL where that is the site */
-    uint32_t frames; /* a number of notes.frames, from 1 on */
-    long thread;     /* as the kernel counts threads; 0 where it isn't known */
+    uint32_t frames;  /* a number of notes.frames, from 1 on */
+    long thread;      /* as the kernel counts threads; 0 where it isn't known */
     unsigned long at; /* in milliseconds, when it was written first */
 };
 
@@ -85,7 +85,7 @@ struct alias {
 /* The single lock of a number in the stream. */
 struct lock_name {
     const char *name, *type;
-    const char *class; /* mtx, rw */
+    const char *class;          /* mtx, rw */
     struct code_place variable; /* where it stands, of one that is a variable with the type's name; else no object */
 };
 
@@ -97,25 +97,25 @@ struct notes {
     size_t framed, frames_room;
     struct event *event;
     size_t events, event_room;
-    struct alias *alias;    /* one for each type of the trace */
+    struct alias *alias; /* one for each type of the trace */
     size_t aliases, alias_room;
     unsigned long *matched; /* lines of the ignore file that named types of this trace, each once */
     size_t matches, matched_room;
-    const char **blind;     /* objects in which stacks end */
+    const char **blind; /* objects in which stacks end */
     size_t blinds, blind_room;
-    const char **library;   /* those whose right orders were silenced (right_orders.h), each once */
+    const char **library; /* those whose right orders were silenced (right_orders.h), each once */
     size_t libraries, library_room;
     struct lock_name *lock; /* lock[N - 1] is that of number N */
     size_t locks, lock_room;
-    struct map cut;         /* names that are too long for the verifier, as it has them: numbers in the list, from 1 on */
+    struct map cut; /* names that are too long for the verifier, as it has them: numbers in the list, from 1 on */
     const char **whole;
     size_t wholes, whole_room;
-    struct single single;   /* the pairs of single locks */
-    struct peace peace;     /* what of its types isn't told */
+    struct single single;    /* the pairs of single locks */
+    struct peace peace;      /* what of its types isn't told */
     struct lock_pairs pairs; /* of single locks, where orders are learnt or reports are to be confirmed */
-    unsigned long pending;  /* requests that never ended */
-    bool has_shared;        /* a lock may be taken by other processes, too */
-    void *texts;            /* what the texts stand in */
+    unsigned long pending;   /* requests that never ended */
+    bool has_shared;         /* a lock may be taken by other processes, too */
+    void *texts;             /* what the texts stand in */
 };
 
 void notes_end(struct notes *notes);

@@ -45,8 +45,8 @@ static bool segment_at(const struct image *image, unsigned number, Elf64_Phdr *s
 {
     Elf64_Ehdr head;
     memcpy(&head, image->bytes, sizeof head);
-    if (memcmp(head.e_ident, ELFMAG, SELFMAG) != 0 || head.e_ident[EI_CLASS] != ELFCLASS64 ||
-        head.e_ident[EI_DATA] != ELFDATA2LSB || number >= head.e_phnum || head.e_phentsize < sizeof *segment)
+    if (memcmp(head.e_ident, ELFMAG, SELFMAG) != 0 || head.e_ident[EI_CLASS] != ELFCLASS64
+        || head.e_ident[EI_DATA] != ELFDATA2LSB || number >= head.e_phnum || head.e_phentsize < sizeof *segment)
         return false;
     const void *at = head.e_phoff > image->length
         ? NULL
@@ -79,7 +79,8 @@ static const char *soname_in(const struct image *image, const Elf64_Phdr *segmen
     Elf64_Dyn entry;
     bool has_soname = false;
     for (uint64_t at = 0; at + sizeof entry <= segment->p_filesz; at += sizeof entry) {
-        const void *bytes = segment->p_offset > image->length ? NULL : bytes_at(image, segment->p_offset + at, sizeof entry);
+        const void *bytes =
+            segment->p_offset > image->length ? NULL : bytes_at(image, segment->p_offset + at, sizeof entry);
         if (!bytes)
             return NULL;
         memcpy(&entry, bytes, sizeof entry);
@@ -117,8 +118,8 @@ static const char *build_id_in(const struct image *image, const Elf64_Phdr *segm
         uint64_t name = at + sizeof note, value = name + padded(note.n_namesz), end = value + padded(note.n_descsz);
         if (end > segment->p_filesz)
             return NULL;
-        if (note.n_type == NT_GNU_BUILD_ID && note.n_namesz == 4 && memcmp(bytes + name, "GNU", 4) == 0 &&
-            note.n_descsz > 0 && note.n_descsz <= BUILD_ID_MOST)
+        if (note.n_type == NT_GNU_BUILD_ID && note.n_namesz == 4 && memcmp(bytes + name, "GNU", 4) == 0
+            && note.n_descsz > 0 && note.n_descsz <= BUILD_ID_MOST)
             return hexadecimal(bytes + value, note.n_descsz, texts);
         at = end;
     }

@@ -10,7 +10,7 @@
 struct place {
     const char *file; /* not ended by a zero */
     size_t length;
-    long line;        /* 0 where it isn't known: then the file is an object, with an offset in it */
+    long line; /* 0 where it isn't known: then the file is an object, with an offset in it */
 };
 
 /* False where the text is no place: of an order that was listed, or where nothing is known. */

@@ -10,8 +10,8 @@ char *place_name(const char *site)
     if (!code_words_read(&words, site) || words.function_length == 0)
         return copy_bytes(site, code_length(site));
     bool has_object = words.object_length > 0;
-    return say_text("%.*s%.*s%s%.*s%s", (int)words.function_length, words.function, (int)words.within_length, words.within,
-        has_object ? " (" : "", (int)code_object_told(&words), words.object, has_object ? ")" : "");
+    return say_text("%.*s%.*s%s%.*s%s", (int)words.function_length, words.function, (int)words.within_length,
+        words.within, has_object ? " (" : "", (int)code_object_told(&words), words.object, has_object ? ")" : "");
 }
 
 char *place_told(const char *site)

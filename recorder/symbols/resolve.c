@@ -63,8 +63,7 @@ struct known {
 };
 
 /* Without notes, where a trace alone is wanted. */
-static void known_begin(
-    struct known *known, struct resolver *resolver, const struct stream *stream, struct notes *notes)
+static void known_begin(struct known *known, struct resolver *resolver, const struct stream *stream, struct notes *notes)
 {
     const struct settings *settings = resolver->settings;
     declared_read(&known->declared, stream, resolver->symbols, settings->progress);

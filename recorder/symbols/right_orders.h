@@ -46,7 +46,7 @@ char *right_orders_place(const char *here);
  * Silences each pair of types, and each type, of which both orders are in the stream, all in the lists' direction are right, and
  * no single locks were taken both ways. The notes have the libraries whose orders these are.
  */
-void right_orders_silence(const struct right_orders *right, const struct stream *stream, const struct declared *declared,
-    const struct types *types, struct peace *peace, struct notes *notes);
+void right_orders_silence(const struct right_orders *right, const struct stream *stream,
+    const struct declared *declared, const struct types *types, struct peace *peace, struct notes *notes);
 
 #endif

@@ -95,7 +95,8 @@ static bool is_made_by(const struct reading *reading, uint32_t number, const cha
 }
 
 /* Whether the place is in one of the order's functions; `has_name` where it is in any that has a name, in the object. */
-static bool is_in(const struct reading *reading, const struct place *place, const struct right_order *order, bool *has_name)
+static bool is_in(const struct reading *reading, const struct place *place, const struct right_order *order,
+    bool *has_name)
 {
     const struct declared *declared = reading->declared;
     for (; place->kind == PLACE_PAIR; place = place_of(declared, place->rest))
@@ -127,13 +128,13 @@ static bool is_by_way(const struct reading *reading, const struct right_order *o
 }
 
 /* The order of the lists that the request is; NULL where it is none. */
-static const struct right_order *right_order_of(
-    const struct reading *reading, uint32_t held, uint32_t asked, uint32_t place, uint32_t stack)
+static const struct right_order *right_order_of(const struct reading *reading, uint32_t held, uint32_t asked,
+    uint32_t place, uint32_t stack)
 {
     for (size_t i = 0; i < reading->right->count; i++) {
         const struct right_order *order = &reading->right->order[i];
-        if (is_made_by(reading, held, order->object, order->held) && is_made_by(reading, asked, order->object, order->asked)
-            && is_by_way(reading, order, place, stack))
+        if (is_made_by(reading, held, order->object, order->held)
+            && is_made_by(reading, asked, order->object, order->asked) && is_by_way(reading, order, place, stack))
             return order;
     }
     return NULL;
@@ -145,7 +146,9 @@ static const char *library_of(const struct reading *reading, uint32_t type)
     const struct type *declared = &reading->declared->type[type];
     struct steps steps;
     steps_begin(&steps, reading->declared, declared);
-    uint32_t object = declared->has_variable ? declared->variable.object : steps.count > 0 ? steps.step[0].place->object : 0;
+    uint32_t object = declared->has_variable ? declared->variable.object
+        : steps.count > 0                    ? steps.step[0].place->object
+                                             : 0;
     steps_end(&steps);
     struct code_words words = {.object = object_name(reading->declared, object)};
     words.object_length = strlen(words.object);
@@ -160,8 +163,8 @@ static void note_request(struct reading *reading, uint32_t held, uint32_t asked,
         return;
     const struct right_order *order = right_order_of(reading, held, asked, place, stack);
     *known = 1;
-    ADD(reading->met, reading->mets, reading->met_room) = (struct met){
-        held, asked, order != NULL, order == NULL, order ? library_of(reading, asked) : NULL};
+    ADD(reading->met, reading->mets, reading->met_room) =
+        (struct met){held, asked, order != NULL, order == NULL, order ? library_of(reading, asked) : NULL};
 }
 
 /* Of two types: they aren't silenced. */
@@ -177,8 +180,8 @@ static void read_pair(struct reading *reading, const struct line *line)
     field_number(line, PAIR_HELD + PAIR_SERIAL, UINT32_MAX - 1, &held);
     field_number(line, PAIR_ASKED + PAIR_SERIAL, UINT32_MAX - 1, &asked);
     if (!field_number(line, PAIR_HELD + PAIR_TYPE, TYPE_MOST - 1, &held_type)
-        || !field_number(line, PAIR_ASKED + PAIR_TYPE, TYPE_MOST - 1, &asked_type)
-        || held_type >= reading->types->count || asked_type >= reading->types->count)
+        || !field_number(line, PAIR_ASKED + PAIR_TYPE, TYPE_MOST - 1, &asked_type) || held_type >= reading->types->count
+        || asked_type >= reading->types->count)
         return;
     const uint32_t key[] = {held, asked}, other[] = {asked, held};
     *map_add(&reading->single, key, sizeof key) = 1;
@@ -294,8 +297,8 @@ static void silence(const struct reading *reading, const struct met *met, struct
         ADD(notes->library, notes->libraries, notes->library_room) = texts_copy(notes->texts, library, strlen(library));
 }
 
-void right_orders_silence(const struct right_orders *right, const struct stream *stream, const struct declared *declared,
-    const struct types *types, struct peace *peace, struct notes *notes)
+void right_orders_silence(const struct right_orders *right, const struct stream *stream,
+    const struct declared *declared, const struct types *types, struct peace *peace, struct notes *notes)
 {
     struct reading reading = {.right = right, .declared = declared, .types = types};
     struct line line;

@@ -35,8 +35,8 @@ static bool ends(const char *text, const char *with)
 void leave_hash_out(char *name)
 {
     size_t length = strlen(name), hash = HASH_DIGITS + 3;
-    if (length >= hash && begins(name + length - hash, "::h") &&
-        hexadecimal_digits(name + length - HASH_DIGITS) == HASH_DIGITS)
+    if (length >= hash && begins(name + length - hash, "::h")
+        && hexadecimal_digits(name + length - HASH_DIGITS) == HASH_DIGITS)
         name[length - hash] = '\0';
     char *to = name;
     for (const char *from = name; *from;) {
@@ -312,8 +312,8 @@ bool is_wrapper(const char *name, const char *patterns)
         char byte = name[length - kept + i];
         end[i] = byte >= 'A' && byte <= 'Z' ? (char)(byte - 'A' + 'a') : byte;
     }
-    return !ends_as_one_of(end, others, sizeof others / sizeof *others) &&
-        ends_as_one_of(end, locks, sizeof locks / sizeof *locks);
+    return !ends_as_one_of(end, others, sizeof others / sizeof *others)
+        && ends_as_one_of(end, locks, sizeof locks / sizeof *locks);
 }
 
 bool is_thread_begin(const char *name)

@@ -12,10 +12,10 @@
 struct step {
     const struct place *place; /* a call, or a place by name */
     const char *identity;      /* where it comes from: a step that comes from elsewhere has another one */
-    const char *name;          /* FILE:LINE without folders, and the column where others stand on that line; where no line is known FUNCTION+OFFSET */
-    const char *function;      /* NULL where it has no name */
-    const char *site;          /* FILE:LINE; NULL where no line is known */
-    size_t frame;              /* which of the functions at the place it is: the innermost one is 0 */
+    const char *name; /* FILE:LINE without folders, and the column where others stand on that line; where no line is known FUNCTION+OFFSET */
+    const char *function; /* NULL where it has no name */
+    const char *site;     /* FILE:LINE; NULL where no line is known */
+    size_t frame;         /* which of the functions at the place it is: the innermost one is 0 */
 };
 
 struct steps {

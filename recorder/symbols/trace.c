@@ -117,8 +117,12 @@ static const struct {
     const char *word;
     void (*puts)(struct writing *writing, const struct line *line);
 } words[] = {
-    {WORD_CHECK, put_check},   {WORD_LOCK, put_line}, {WORD_UNLOCK, put_line},
-    {WORD_TRY, put_try},       {WORD_GIVEUP, put_line}, {WORD_INIT, put_init},
+    {WORD_CHECK, put_check},
+    {WORD_LOCK, put_line},
+    {WORD_UNLOCK, put_line},
+    {WORD_TRY, put_try},
+    {WORD_GIVEUP, put_line},
+    {WORD_INIT, put_init},
 };
 
 static void write_line(struct writing *writing, const struct line *line)

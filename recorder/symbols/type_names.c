@@ -256,8 +256,8 @@ static void give_lasting(struct types *types, const struct declared *declared)
 }
 
 /* Giant is the kernel's own lock, with rules that no program's has. */
-void type_names_give(
-    struct types *types, const struct declared *declared, const struct told_names *told, const char *stream)
+void type_names_give(struct types *types, const struct declared *declared, const struct told_names *told,
+    const char *stream)
 {
     struct function_names functions;
     struct giving giving = {declared, types, &functions, take((types->count + 1) * sizeof *giving.wanted), {0}};
@@ -269,8 +269,7 @@ void type_names_give(
         if (type->first != number)
             continue;
         giving.wanted[number] = bare_name(&giving, number);
-        type->lock_has_name =
-            type->lock && (!type->lasting.lasts || strcmp(type->lock, giving.wanted[number]) == 0);
+        type->lock_has_name = type->lock && (!type->lasting.lasts || strcmp(type->lock, giving.wanted[number]) == 0);
     }
     give_told(&giving, told, stream);
     part(&giving, with_object);
@@ -284,8 +283,8 @@ void type_names_give(
     free(giving.wanted);
 }
 
-const char *variable_lock_in(
-    const struct declared *declared, const struct named_type *type, const struct variable *variable)
+const char *variable_lock_in(const struct declared *declared, const struct named_type *type,
+    const struct variable *variable)
 {
     const char *own = variable_lock_name(declared, variable);
     if (type->lock_has_name && strcmp(own, type->lock) == 0)

@@ -27,12 +27,12 @@ void told_names_end(struct told_names *told);
 void told_names_add(struct told_names *told, const char *stream, const char *source, const char *name);
 
 /* Gives each of the stream's types its name. */
-void type_names_give(
-    struct types *types, const struct declared *declared, const struct told_names *told, const char *stream);
+void type_names_give(struct types *types, const struct declared *declared, const struct told_names *told,
+    const char *stream);
 
 /* The name of a lock of that type that stands in the variable; or of the one of that number among the type's, from 1 on. */
-const char *variable_lock_in(
-    const struct declared *declared, const struct named_type *type, const struct variable *variable);
+const char *variable_lock_in(const struct declared *declared, const struct named_type *type,
+    const struct variable *variable);
 const char *numbered_lock_in(const struct declared *declared, const struct named_type *type, uint32_t number);
 
 /* As a trace may have the name: a longer one is cut, and has a number after `~` that is made of all of it. */

@@ -302,13 +302,11 @@ static void part_variables(struct namer *namer)
     for (uint32_t number = 1; number < namer->types->count; number++) {
         const struct type *type = &namer->declared->type[number];
         struct text *plain = &namer->naming[number].plain;
-        if (!is_first(namer, number) || !type->has_variable ||
-            map_find_text(&claims, namer->naming[number].claim) < 2)
+        if (!is_first(namer, number) || !type->has_variable || map_find_text(&claims, namer->naming[number].claim) < 2)
             continue;
         char *object = say_text("%s)", object_name(namer->declared, type->variable.object));
         bool closes = plain->bytes[plain->length - 1] == ')';
-        const char *head =
-            texts_say(texts, "%.*s%s", (int)(plain->length - closes), plain->bytes, closes ? ", " : " (");
+        const char *head = texts_say(texts, "%.*s%s", (int)(plain->length - closes), plain->bytes, closes ? ", " : " (");
         clean_name(object);
         const char *parted = cut_name(texts, texts_say(texts, "%.*s", NAME_KEPT, head), object);
         plain->length = 0;

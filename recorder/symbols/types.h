@@ -14,13 +14,13 @@
 /* A stream's type. Those that come from the same source are one: the first of them, whose names they have. */
 struct named_type {
     uint32_t first;
-    const char *name;      /* as it is told, of any length (type_names.h); no other type has it */
-    const char *lock;      /* that of a lock in the type's own variable, without its object; NULL where it has none */
-    bool lock_has_name;    /* such a lock has the type's name */
-    const char *by_lines;  /* by variables and source lines: at most 63 bytes; no other type has it */
-    const char *source;    /* where it comes from: another type comes from elsewhere */
+    const char *name;     /* as it is told, of any length (type_names.h); no other type has it */
+    const char *lock;     /* that of a lock in the type's own variable, without its object; NULL where it has none */
+    bool lock_has_name;   /* such a lock has the type's name */
+    const char *by_lines; /* by variables and source lines: at most 63 bytes; no other type has it */
+    const char *source;   /* where it comes from: another type comes from elsewhere */
     struct lasting lasting;
-    const char *alone;     /* what it would be called if it weren't one with the first; NULL where that is a type's name */
+    const char *alone; /* what it would be called if it weren't one with the first; NULL where that is a type's name */
     const char *functions; /* the functions of its places; NULL where its name is that of a variable */
     bool is_array;         /* it is all locks of a variable that has many */
     bool is_member;        /* it is all locks of a member that no call has made */

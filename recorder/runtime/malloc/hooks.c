@@ -20,13 +20,13 @@
 
 /* Where the call comes from: its return address, and the stack pointer and the frame pointer there. */
 #define CALLER                                                                                                         \
-    (uintptr_t)__builtin_return_address(0), (uintptr_t)__builtin_frame_address(0) + 16,                                \
+    (uintptr_t) __builtin_return_address(0), (uintptr_t)__builtin_frame_address(0) + 16,                               \
         *(const uintptr_t *)__builtin_frame_address(0)
 
 TELLS(void witness_block_comes(void *from, size_t size, uintptr_t pc, uintptr_t stack, uintptr_t base));
 TELLS(void witness_block_goes(void *from));
-TELLS(void *witness_block_moves(
-    void *from, size_t size, uintptr_t pc, uintptr_t stack, uintptr_t base, void *(*move)(void *, size_t)));
+TELLS(void *witness_block_moves(void *from, size_t size, uintptr_t pc, uintptr_t stack, uintptr_t base,
+    void *(*move)(void *, size_t)));
 
 static struct {
     void *(*malloc)(size_t);
