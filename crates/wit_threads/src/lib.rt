@@ -19,8 +19,6 @@ mod exhausting;
 #[cfg(test)]
 mod fakes;
 #[cfg(test)]
-mod gates;
-#[cfg(test)]
 mod guarding;
 #[cfg(test)]
 mod observing;
