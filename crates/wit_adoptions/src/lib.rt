@@ -19,6 +19,3 @@ pub use link::ListLink;
 pub use naming::Naming;
 pub use page::Page;
 pub use program::{Program, keep};
-
-#[cfg(test)]
-mod tests;

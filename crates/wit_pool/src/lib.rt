@@ -16,6 +16,3 @@ pub use chunk::{Chunk, Next};
 #[doc(hidden)]
 pub use group::Group;
 pub use pool::Pool;
-
-#[cfg(test)]
-mod tests;
