@@ -19,13 +19,17 @@ static bool mark(const struct single *single, const char *name, bool *marked)
 {
     bool is_new = false;
     for (uint32_t number = 1; number < single->types; number++) {
-        const struct single_type *type = &single->type[number];
-        if (type->first != number || !type->name || strcmp(type->name, name) != 0)
+        if (!single->type[number] || strcmp(single->type[number], name) != 0)
             continue;
         is_new |= !marked[number];
         marked[number] = true;
     }
     return is_new;
+}
+
+static bool is_of(const struct single *single, uint32_t type, const bool *marked)
+{
+    return type < single->types && marked[type];
 }
 
 static void add(struct facts *facts, const struct single_pair *pair)
@@ -44,7 +48,7 @@ void facts_gather(struct facts *facts, const struct report *report, const struct
         facts->types += type && mark(single, type, marked);
     }
     for (size_t i = 0; i < single->pairs; i++)
-        if (marked[single->pair[i].held.type] && marked[single->pair[i].asked.type])
+        if (is_of(single, single->pair[i].held.type, marked) && is_of(single, single->pair[i].asked.type, marked))
             add(facts, &single->pair[i]);
     free(marked);
 }

@@ -5,58 +5,9 @@
 
 #include "allocation.h"
 
-static const char look[] = "look\n";
+enum { BUFFER_BYTES = 1 << 16 };
 
-void going_begins(struct going_verdict *going)
-{
-    going->at = 0;
-}
-
-/* Adds the bytes to a text. */
-static void append(char **text, size_t *length, size_t *room, const char *bytes, size_t count)
-{
-    while (*length + count > *room) {
-        *room = *room ? 2 * *room : 1 << 14;
-        *text = grow(*text, *room, 1);
-    }
-    memcpy(*text + *length, bytes, count);
-    *length += count;
-}
-
-/* The verifier has lines that aren't those: it is of no use. */
-static void forget(struct going_verdict *going)
-{
-    if (going->is_begun && !going->has_ended)
-        verdict_end(&going->verdict);
-    if (going->to)
-        fclose(going->to);
-    free(going->fresh);
-    going->fresh = NULL;
-    going->to = NULL;
-    going->is_begun = going->has_ended = false;
-    going->fed = going->kept_length = 0;
-}
-
-/* From here on the lines are others. */
-static void cut(struct going_verdict *going)
-{
-    if (going->at < going->fed)
-        forget(going);
-    going->length = going->at;
-}
-
-void going_takes(struct going_verdict *going, const char *bytes, size_t length)
-{
-    size_t known = going->length - going->at;
-    known = known < length ? known : length;
-    if (known > 0 && memcmp(going->lines + going->at, bytes, known) != 0) {
-        cut(going);
-        known = 0;
-    }
-    going->at += known;
-    append(&going->lines, &going->length, &going->room, bytes + known, length - known);
-    going->at = going->at + (length - known);
-}
+static const char look[] = "look\n", order[] = "{\"finding\":\"order\"";
 
 /* It tells to a text that begins anew. */
 static bool hears(struct going_verdict *going)
@@ -65,28 +16,40 @@ static bool hears(struct going_verdict *going)
         fclose(going->to);
     free(going->fresh);
     going->fresh = NULL;
+    going->fresh_length = 0;
     going->to = open_memstream(&going->fresh, &going->fresh_length);
     going->verdict.told = going->to;
     return going->to != NULL;
 }
 
-/* Gives it the lines that it lacks. False where that can't be. */
-static bool feed(struct going_verdict *going, const char *witness)
+static ssize_t feed(void *cookie, const char *bytes, size_t length)
 {
-    if (going->at < going->length)
-        cut(going);
-    if (going->has_ended && going->fed < going->length)
-        forget(going);
-    if (going->has_ended)
-        return true;
-    if (!hears(going))
-        return false;
-    if (!going->is_begun)
+    struct going_verdict *going = cookie;
+    verdict_feed(&going->verdict, bytes, length);
+    return (ssize_t)length;
+}
+
+enum resolved going_reads(struct going_verdict *going, struct resolver *resolver, const char *witness,
+    const struct stream *stream)
+{
+    enum resolved resolved = RESOLVED_ANEW;
+    bool has_more = !going->resolving || stream->before + stream->length > resolving_read(going->resolving);
+    if (going->has_ended && !has_more)
+        return RESOLVED;
+    if (!going->resolving)
+        going->resolving = resolving_new(resolver, stream);
+    FILE *to = !going->has_ended && hears(going) ? fopencookie(going, "w", (cookie_io_functions_t){.write = feed}) : NULL;
+    if (to && !going->is_begun)
         verdict_begin(&going->verdict, witness, "findings", going->to);
-    going->is_begun = true;
-    verdict_feed(&going->verdict, going->lines + going->fed, going->length - going->fed);
-    going->fed = going->length;
-    return true;
+    if (to) {
+        going->is_begun = true;
+        setvbuf(to, NULL, _IOFBF, BUFFER_BYTES);
+        resolved = resolving_goes_on(going->resolving, stream, to);
+        fclose(to);
+    }
+    if (resolved == RESOLVED_ANEW)
+        going_leaves(going);
+    return resolved;
 }
 
 /* Whether the text has told all of a moment. */
@@ -99,22 +62,32 @@ static bool has_moment(const char *text, size_t length)
 }
 
 /* Whether the line tells what is so from then on. */
-static bool is_lasting(const char *line)
+static bool is_lasting(const char *line, bool wants_orders)
 {
-    static const char *const lasting[] = {"{\"finding\":\"order\"", "{\"finding\":\"report\"", "{\"finding\":\"bad\""};
+    static const char *const lasting[] = {"{\"finding\":\"report\"", "{\"finding\":\"bad\""};
     for (size_t i = 0; i < sizeof lasting / sizeof *lasting; i++)
         if (strncmp(line, lasting[i], strlen(lasting[i])) == 0)
             return true;
-    return false;
+    return wants_orders && strncmp(line, order, sizeof order - 1) == 0;
+}
+
+static void keep_line(struct going_verdict *going, const char *line, size_t length)
+{
+    while (going->kept_length + length > going->kept_room) {
+        going->kept_room = going->kept_room ? 2 * going->kept_room : 1 << 14;
+        going->kept = grow(going->kept, going->kept_room, 1);
+    }
+    memcpy(going->kept + going->kept_length, line, length);
+    going->kept_length += length;
 }
 
 /* Keeps of what was told last what is so from then on. */
-static void keep(struct going_verdict *going)
+static void keep(struct going_verdict *going, bool wants_orders)
 {
     const char *at = going->fresh, *end = at + going->fresh_length, *after;
     for (; at < end && (after = memchr(at, '\n', (size_t)(end - at))) != NULL; at = after + 1)
-        if (is_lasting(at))
-            append(&going->kept, &going->kept_length, &going->kept_room, at, (size_t)(after + 1 - at));
+        if (is_lasting(at, wants_orders))
+            keep_line(going, at, (size_t)(after + 1 - at));
 }
 
 /* All that it told: of the lines, and of the last moment. */
@@ -130,29 +103,27 @@ static char *told_by(struct going_verdict *going, size_t *length)
     return told;
 }
 
-char *going_looks(struct going_verdict *going, const char *witness, size_t *length)
+char *going_looks(struct going_verdict *going, bool wants_orders, size_t *length)
 {
-    if (!feed(going, witness))
+    if (!going->is_begun)
         return NULL;
     if (going->has_ended)
         return told_by(going, length);
     verdict_feed(&going->verdict, look, sizeof look - 1);
     going->verdict.had_little = false;
     do {
-        if (!verdict_hears(&going->verdict)) {
-            forget(going);
+        if (!verdict_hears(&going->verdict))
             return NULL;
-        }
         fflush(going->to);
     } while (!has_moment(going->fresh, going->fresh_length));
     char *told = told_by(going, length);
-    keep(going);
+    keep(going, wants_orders);
     return told;
 }
 
-char *going_ends(struct going_verdict *going, const char *witness, size_t *length)
+char *going_ends(struct going_verdict *going, size_t *length)
 {
-    if (!feed(going, witness))
+    if (!going->is_begun)
         return NULL;
     if (!going->has_ended)
         going->status = verdict_end(&going->verdict);
@@ -162,8 +133,12 @@ char *going_ends(struct going_verdict *going, const char *witness, size_t *lengt
 
 void going_leaves(struct going_verdict *going)
 {
-    forget(going);
-    free(going->lines);
+    if (going->is_begun && !going->has_ended)
+        verdict_end(&going->verdict);
+    if (going->to)
+        fclose(going->to);
+    resolving_end(going->resolving);
+    free(going->fresh);
     free(going->kept);
     *going = (struct going_verdict){0};
 }

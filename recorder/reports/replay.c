@@ -12,26 +12,17 @@
 
 enum { BUFFER_BYTES = 1 << 16, BAD_LINES = 3 };
 
-/* What the lines go to while they are made; one of them. */
-struct tee {
-    struct replaying *replaying;
-    struct going_verdict *going;
-};
-
-static ssize_t tee_writes(void *cookie, const char *bytes, size_t length)
+static ssize_t feed(void *cookie, const char *bytes, size_t length)
 {
-    struct tee *tee = cookie;
-    if (tee->replaying)
-        replaying_takes(tee->replaying, bytes, length);
-    if (tee->going)
-        going_takes(tee->going, bytes, length);
+    replaying_takes(cookie, bytes, length);
     return (ssize_t)length;
 }
 
+/* In the end. */
 static bool wants_orders(const struct process *process)
 {
     const struct settings *settings = &process->run->settings;
-    return !process->is_followed && (is_asked(settings->graph) || findings_are_wanted(settings));
+    return is_asked(settings->graph) || findings_are_wanted(settings);
 }
 
 /* Why nothing is told of the report. */
@@ -59,52 +50,76 @@ static void part_silenced(struct process *process)
     }
 }
 
-/* Makes the process's lines and its notes. */
-static void make_lines(struct process *process, struct tee *tee)
-{
-    FILE *to = fopencookie(tee, "w", (cookie_io_functions_t){.write = tee_writes});
-    if (!to)
-        return;
-    setvbuf(to, NULL, _IOFBF, BUFFER_BYTES);
-    process->resolved = resolve(process->run->resolver, &process->stream, to, &process->notes);
-    process->resolved &= fclose(to) == 0;
-}
-
-/* All that has come. What the verifier told, a text of one's own. */
-static char *told_of(struct process *process, struct replaying *replaying, size_t *length)
-{
-    process->status = replaying_end(replaying);
-    *length = replaying->told_length;
-    return replaying->told;
-}
-
+/* Has all of the stream judged at once. What the verifier told, a text of one's own. */
 static char *ask(struct process *process, size_t *length)
 {
+    struct run *run = process->run;
     struct replaying replaying;
-    struct tee tee = {.replaying = &replaying};
-    replaying_begin(&replaying, &process->run->answers, process->run->settings.witness);
-    make_lines(process, &tee);
-    return told_of(process, &replaying, length);
+    struct resolving *resolving = resolving_new(run->resolver, &process->stream);
+    replaying_begin(&replaying, &run->answers, run->settings.witness);
+    FILE *to = fopencookie(&replaying, "w", (cookie_io_functions_t){.write = feed});
+    if (to) {
+        setvbuf(to, NULL, _IOFBF, BUFFER_BYTES);
+        process->resolved = resolving_goes_on(resolving, &process->stream, to) == RESOLVED;
+        process->resolved &= fclose(to) == 0;
+    }
+    process->notes = resolving_leaves_notes(resolving);
+    process->status = replaying_end(&replaying);
+    *length = replaying.told_length;
+    return replaying.told;
 }
 
-/* Asks the verifier that goes on; where it can't, another one, about the lines that it has. */
+/* The stream with all of its lines, where it has the last ones alone. */
+static bool has_whole_stream(struct process *process)
+{
+    if (process->stream.before == 0)
+        return true;
+    char *path = copy(process->stream.path);
+    stream_close(&process->stream);
+    bool is_open = stream_open(&process->stream, path, process->is_followed);
+    free(path);
+    return is_open;
+}
+
+/* Has the verifier that goes on read what is new of the stream. False where it can't. */
+static bool reads_on(struct process *process, struct going_verdict *going)
+{
+    struct run *run = process->run;
+    enum resolved resolved = going_reads(going, run->resolver, run->settings.witness, &process->stream);
+    if (resolved == RESOLVED_ANEW && has_whole_stream(process))
+        resolved = going_reads(going, run->resolver, run->settings.witness, &process->stream);
+    process->resolved = resolved == RESOLVED;
+    return resolved != RESOLVED_ANEW;
+}
+
+/* In the end the notes are the process's own. */
+static void take_notes(struct process *process, struct going_verdict *going)
+{
+    if (process->is_followed) {
+        process->notes = *resolving_notes(going->resolving);
+        process->has_lent_notes = true;
+    } else {
+        process->notes = resolving_leaves_notes(going->resolving);
+        going->resolving = NULL;
+        going_leaves(going);
+    }
+}
+
+/* Asks the verifier that goes on; where it can't, another one. */
 static char *ask_going(struct process *process, struct going_verdict *going, size_t *length)
 {
-    const char *witness = process->run->settings.witness;
     bool ends = !process->is_followed || process->is_last_look;
-    struct replaying replaying;
-    struct tee tee = {.going = going};
-    going_begins(going);
-    make_lines(process, &tee);
-    char *told = ends ? going_ends(going, witness, length) : going_looks(going, witness, length);
+    char *told = NULL;
+    if (reads_on(process, going))
+        told = ends ? going_ends(going, length) : going_looks(going, wants_orders(process), length);
     process->status = ends ? going->status : 0;
-    if (told && process->status <= BAD_LINES)
+    if (told && process->status <= BAD_LINES) {
+        take_notes(process, going);
         return told;
+    }
     free(told);
-    replaying_begin(&replaying, &process->run->answers, witness);
-    replaying_takes(&replaying, going->lines, going->length);
     going_leaves(going);
-    return told_of(process, &replaying, length);
+    return has_whole_stream(process) ? ask(process, length) : NULL;
 }
 
 void replay(struct process *process)
@@ -113,8 +128,9 @@ void replay(struct process *process)
     struct going_verdict *going = follow_verdict(process->run, process);
     char *told = going ? ask_going(process, going, &length) : ask(process, &length);
     process->reports.notes = &process->notes;
-    process->state.lacks_orders = !wants_orders(process);
-    finding_lines_read(&process->reports, &process->state, told, length);
+    process->state.lacks_orders = process->is_followed || !wants_orders(process);
+    if (told)
+        finding_lines_read(&process->reports, &process->state, told, length);
     free(told);
     if (process->state.bads > 0)
         process->status = BAD_LINES;

@@ -8,7 +8,7 @@ const char *schedule_lock(const struct errand_trace *trace, const struct notes *
 {
     const struct single_lock *known = trace->lock[number - 1].known;
     const char *name = known ? notes_lock(notes, known->number)->name : "";
-    const char *type = known && known->type < notes->single.types ? notes->single.type[known->type].name : NULL;
+    const char *type = known && known->type < notes->single.types ? notes->single.type[known->type] : NULL;
     return *name ? name : type ? type : "?";
 }
 

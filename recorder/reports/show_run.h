@@ -89,6 +89,7 @@ struct process {
     bool resolved;     /* else its lines couldn't be made */
     bool is_followed;  /* it goes on, and only its reports are wanted */
     bool is_last_look; /* and it isn't looked at again meanwhile */
+    bool has_lent_notes; /* the notes are those of what goes on */
 };
 
 /* Why nothing is known of a program, where nothing else is known to be the cause. */

@@ -42,16 +42,14 @@ static void read_letter(char letter, struct told *told)
 }
 
 /* A lock of the pair, which the letters after its mode tell more of. */
-static bool read_lock(const struct single *single, const char **at, const char *end, struct single_lock *lock,
-    struct told *told)
+static bool read_lock(const char **at, const char *end, struct single_lock *lock, struct told *told)
 {
     unsigned long number, serial, type;
     if (!read_number(at, end, &number) || !read_number(at, end, &serial) || !read_number(at, end, &type)
         || end - *at < 2 || **at != ' ')
         return false;
     const char *how = *at + 1;
-    *lock = (struct single_lock){(uint32_t)number, (uint32_t)serial,
-        type < single->types ? single->type[type].first : 0, *how == 's'};
+    *lock = (struct single_lock){(uint32_t)number, (uint32_t)serial, (uint32_t)type, *how == 's'};
     while (how < end && *how != ' ')
         read_letter(*how++, told);
     *at = how;
@@ -59,13 +57,13 @@ static bool read_lock(const struct single *single, const char **at, const char *
 }
 
 /* The locks of the line's rest. */
-static bool read_locks(const struct single *single, struct told *told, const char *at, const char *end)
+static bool read_locks(struct told *told, const char *at, const char *end)
 {
     struct single_pair *pair = &told->pair;
-    if (!read_lock(single, &at, end, &pair->held, told) || !read_lock(single, &at, end, &pair->asked, told))
+    if (!read_lock(&at, end, &pair->held, told) || !read_lock(&at, end, &pair->asked, told))
         return false;
     while (at < end && pair->besides < BESIDES_MOST)
-        if (!read_lock(single, &at, end, &pair->beside[pair->besides++], told))
+        if (!read_lock(&at, end, &pair->beside[pair->besides++], told))
             return false;
     return at == end;
 }
@@ -165,7 +163,7 @@ static void read_pair(struct single *single, const char *at, const char *end)
     struct told told = {.pair.how = SINGLE_PLAINLY};
     unsigned long seat, thread, when, place, took;
     if (!read_number(&at, end, &seat) || !read_number(&at, end, &thread) || !read_number(&at, end, &when)
-        || !read_number(&at, end, &place) || !read_number(&at, end, &took) || !read_locks(single, &told, at, end)) {
+        || !read_number(&at, end, &place) || !read_number(&at, end, &took) || !read_locks(&told, at, end)) {
         single->is_full = true;
         return;
     }
@@ -256,7 +254,6 @@ static int by_thread(const void *left, const void *right)
 
 void single_sort(struct single *single)
 {
-    map_end(&single->by_key);
     if (single->lives > 0)
         qsort(single->life, single->lives, sizeof *single->life, by_thread);
 }

@@ -16,7 +16,7 @@ enum { BESIDES_MOST = 4 };
 /* A lock of a pair. Its serial number is no other lock's; its number in the trace may be one that another had before. */
 struct single_lock {
     uint32_t number, serial; /* the number is 0 where it has none */
-    uint32_t type;           /* as single.type counts; 0 where the trace has no room for it */
+    uint32_t type;           /* by the file's numbers; 0 where there was no room for it */
     bool shared;
 };
 
@@ -71,18 +71,12 @@ struct single_join {
     unsigned long at;
 };
 
-/* A type of the file, which may be one with an earlier one. */
-struct single_type {
-    uint32_t first;
-    const char *name; /* of the first one; a text of the notes */
-};
-
 struct single {
-    struct single_type *type; /* by the file's numbers, from 1 on */
-    size_t types, type_room;  /* one more than the highest number */
+    const char **type; /* their names by the file's numbers, from 1 on: those that are one have one. Texts of the notes */
+    size_t types, type_room; /* one more than the highest number */
     struct single_pair *pair;
     size_t pairs, pair_room;
-    struct map by_key;              /* where each pair is, from 1 on; empty after single_sort */
+    struct map by_key;              /* where each pair is, from 1 on */
     struct single_telling *telling; /* in the sequence of the file */
     size_t tellings, telling_room;
     struct single_errand *errand;
@@ -101,10 +95,10 @@ struct single {
 
 /*
  * Takes in a line, if it is one of these words; after a malformed one pairs may be missing. What is told of one pair is put
- * together: its threads, and what was held besides each time. The types are there by then.
+ * together: its threads, and what was held besides each time.
  */
 void single_read(struct single *single, const char *line, size_t length);
-/* After the last line. */
+/* After the last line, and where more have come since. */
 void single_sort(struct single *single);
 void single_end(struct single *single);
 

@@ -257,14 +257,12 @@ static void tell_blocks(struct process *process)
 static void tell_missed(struct process *process)
 {
     struct run *run = process->run;
-    char *line = stream_first_line(&process->stream);
-    char *missed = missed_of(line);
+    char *missed = missed_of(process->stream.head);
     if (*missed) {
         run->partly = true;
         say(&run->output, "%s: not recorded: %s", process->name, missed);
     }
     free(missed);
-    free(line);
     tell_blocks(process);
     tell_waits(process);
     tell_releases(process);
@@ -368,6 +366,7 @@ void process_end(struct process *process)
 {
     reports_end(&process->reports);
     reports_end(&process->silenced);
-    notes_end(&process->notes);
+    if (!process->has_lent_notes)
+        notes_end(&process->notes);
     state_end(&process->state);
 }

@@ -14,10 +14,11 @@
 #include "version.h"
 
 /*
- * A stream of more bytes is left until the end; so many times as long as a look took nothing is looked at. So many processes
- * have a verifier that goes on.
+ * So many processes have a verifier that goes on. A stream without one is read from its beginning each time: one of more bytes
+ * is left until the end. So many times as long as a look took nothing is looked at, at most so many microseconds where
+ * nothing was read twice.
  */
-enum { BYTES_MOST = 1 << 25, PAUSE = 4, GOING_MOST = 8 };
+enum { GOING_MOST = 8, BYTES_MOST = 1 << 25, PAUSE = 4, PAUSE_MOST = 20000 };
 
 /* A report that was told, and what was said of its single locks. */
 struct told_report {
@@ -26,7 +27,7 @@ struct told_report {
 
 /* How far a stream was read. */
 struct followed {
-    char *name;
+    char *name, *program;
     size_t length;
     struct told_report *told;
     size_t tolds, told_room;
@@ -80,6 +81,7 @@ void follow_end(struct run *run)
         free(run->followed[i].going);
         free(run->followed[i].told);
         free(run->followed[i].name);
+        free(run->followed[i].program);
     }
     free(run->followed);
 }
@@ -106,8 +108,8 @@ static long long microseconds(void)
 /* Tells what the stream has by now. */
 static void tell_of(struct process *process, struct followed *followed)
 {
-    followed->length = process->stream.length;
-    process->name = process->stream.program ? process->stream.program : "";
+    followed->length = process->stream.before + process->stream.length;
+    process->name = followed->program ? followed->program : "";
     replay(process);
     if (!process->run->watched)
         tell_new_reports(process);
@@ -115,15 +117,28 @@ static void tell_of(struct process *process, struct followed *followed)
     process_end(process);
 }
 
+/* The lines that weren't read, where the verifier goes on, else all. */
+static bool open_stream(struct process *process, struct followed *followed, const char *path)
+{
+    if (followed->going->is_begun)
+        return stream_open_after(&process->stream, path, followed->length, true);
+    if (stream_room(path) > BYTES_MOST || !stream_open(&process->stream, path, true))
+        return false;
+    if (!followed->program)
+        followed->program = copy(process->stream.program);
+    if (version_is_own(process->stream.bytes, process->stream.length))
+        return true;
+    stream_close(&process->stream);
+    return false;
+}
+
 static void read_stream(struct run *run, const struct recording *recording, struct followed *followed)
 {
     struct process process = {.run = run, .recording = recording, .is_followed = true};
     char *path = say_text("%s/%s", run->records, recording->name);
     bool is_due = deadlock_is_due(&followed->deadlock, microseconds());
-    if ((is_due || has_grown(path, followed->length)) && stream_room(path) <= BYTES_MOST
-        && stream_open(&process.stream, path, true)) {
-        if ((is_due || process.stream.length > followed->length)
-            && version_is_own(process.stream.bytes, process.stream.length))
+    if ((is_due || has_grown(path, followed->length)) && open_stream(&process, followed, path)) {
+        if (is_due || process.stream.before + process.stream.length > followed->length)
             tell_of(&process, followed);
         stream_close(&process.stream);
     }
@@ -147,7 +162,7 @@ static void stop(struct run *run, const struct recording *recording, struct foll
 {
     struct process process = {.run = run, .recording = recording, .is_followed = true, .is_last_look = true};
     char *path = say_text("%s/%s", run->records, recording->name);
-    if (stream_room(path) <= BYTES_MOST && stream_open(&process.stream, path, true)) {
+    if (stream_open_after(&process.stream, path, followed->length, true)) {
         replay(&process);
         process_end(&process);
         stream_close(&process.stream);
@@ -170,13 +185,17 @@ void follow_stops(struct run *run)
 
 void follow(struct run *run)
 {
-    long long begun = microseconds();
+    long long begun = microseconds(), anew = 0;
     if (begun < run->follow_next)
         return;
     find_recordings(run);
-    for (size_t i = 0; i < run->recordings; i++)
-        read_stream(run, &run->recording[i], followed_of(run, run->recording[i].name));
+    for (size_t i = 0; i < run->recordings; i++) {
+        struct followed *followed = followed_of(run, run->recording[i].name);
+        long long before = microseconds();
+        read_stream(run, &run->recording[i], followed);
+        anew += followed->going->is_begun ? 0 : microseconds() - before;
+    }
     forget_recordings(run);
-    long long now = microseconds();
-    run->follow_next = now + PAUSE * (now - begun);
+    long long now = microseconds(), pause = PAUSE * (now - begun - anew);
+    run->follow_next = now + PAUSE * anew + (pause < PAUSE_MOST ? pause : PAUSE_MOST);
 }

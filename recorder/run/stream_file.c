@@ -48,6 +48,22 @@ static void find_lines(struct stream *stream, char *bytes, bool goes_on)
     stream->length = whole_lines(bytes, length);
 }
 
+static char *first_line(const char *bytes, size_t length)
+{
+    const char *end = length > 0 ? memchr(bytes, '\n', length) : NULL;
+    return copy_bytes(bytes, end ? (size_t)(end - bytes) : 0);
+}
+
+/* The first line as it is by now, a text of one's own: counts are written into it. */
+static char *head_of(const struct stream *stream, int file)
+{
+    char bytes[1 << 10];
+    if (stream->before == 0)
+        return first_line(stream->bytes, stream->length);
+    ssize_t got = pread(file, bytes, sizeof bytes, 0);
+    return first_line(bytes, got > 0 ? without_zeroes(bytes, (size_t)got) : 0);
+}
+
 /* The name that the second line has. */
 static char *program_in(const struct stream *stream)
 {
@@ -92,14 +108,15 @@ static void *read_pieces(struct stream *stream, int file, size_t size)
 {
     enum { PIECE = 1 << 20 };
     static char nothing[1];
-    stream->mapped = room_of(file, size);
+    size_t room = room_of(file, size);
+    stream->mapped = room > stream->before ? room - stream->before : 0;
     if (stream->mapped == 0)
         return nothing;
     char *bytes = mmap(NULL, stream->mapped, PROT_READ | PROT_WRITE, MAP_PRIVATE | MAP_ANONYMOUS | MAP_NORESERVE, -1, 0);
-    off_t at = 0;
-    while (bytes != MAP_FAILED && (at = next_written(file, at)) >= 0 && (size_t)at < stream->mapped) {
-        size_t left = stream->mapped - (size_t)at;
-        ssize_t got = pread(file, bytes + at, left < PIECE ? left : PIECE, at);
+    off_t at = (off_t)stream->before;
+    while (bytes != MAP_FAILED && (at = next_written(file, at)) >= 0 && (size_t)at < room) {
+        size_t left = room - (size_t)at;
+        ssize_t got = pread(file, bytes + ((size_t)at - stream->before), left < PIECE ? left : PIECE, at);
         if (got <= 0)
             break;
         at += got;
@@ -107,11 +124,11 @@ static void *read_pieces(struct stream *stream, int file, size_t size)
     return bytes;
 }
 
-bool stream_open(struct stream *stream, const char *path, bool goes_on)
+bool stream_open_after(struct stream *stream, const char *path, size_t before, bool goes_on)
 {
     struct stat status;
     void *bytes = MAP_FAILED;
-    *stream = (struct stream){0};
+    *stream = (struct stream){.before = before};
     int file = open(path, O_RDONLY | O_CLOEXEC | O_NONBLOCK);
     if (file < 0)
         return false;
@@ -124,16 +141,26 @@ bool stream_open(struct stream *stream, const char *path, bool goes_on)
         bytes = read_pieces(stream, file, (size_t)status.st_size);
         opened = bytes != MAP_FAILED;
     }
+    if (opened) {
+        find_lines(stream, bytes, goes_on);
+        stream->head = head_of(stream, file);
+    }
     int error = errno;
     close(file);
     errno = error;
     if (!opened)
         return false;
-    find_lines(stream, bytes, goes_on);
     stream->path = copy(path);
-    stream->program = program_in(stream);
     stream->process = process_of(path);
-    stream->answered = stream->length > ASKED_AT && stream->bytes[ASKED_AT] == ASKED_NOT;
+    stream->answered = strlen(stream->head) > ASKED_AT && stream->head[ASKED_AT] == ASKED_NOT;
+    return true;
+}
+
+bool stream_open(struct stream *stream, const char *path, bool goes_on)
+{
+    if (!stream_open_after(stream, path, 0, goes_on))
+        return false;
+    stream->program = program_in(stream);
     return true;
 }
 
@@ -142,6 +169,7 @@ void stream_close(struct stream *stream)
     if (stream->mapped > 0)
         munmap((void *)stream->bytes, stream->mapped);
     free(stream->path);
+    free(stream->head);
     free(stream->program);
     *stream = (struct stream){0};
 }
@@ -161,8 +189,8 @@ size_t stream_room(const char *path)
 bool stream_count(const struct stream *stream, const char *name, unsigned long *count)
 {
     struct line line;
-    const char *at = stream->bytes;
-    if (!line_next(&line, &at, stream->bytes + stream->length))
+    const char *at = stream->head;
+    if (!line_next(&line, &at, stream->head + strlen(stream->head)))
         return false;
     for (unsigned i = 0; i + 1 < line.count; i++) {
         uint32_t value;
@@ -172,10 +200,4 @@ bool stream_count(const struct stream *stream, const char *name, unsigned long *
         }
     }
     return false;
-}
-
-char *stream_first_line(const struct stream *stream)
-{
-    const char *end = stream->length > 0 ? memchr(stream->bytes, '\n', stream->length) : NULL;
-    return copy_bytes(stream->bytes, end ? (size_t)(end - stream->bytes) : 0);
 }

@@ -10,10 +10,12 @@
 
 struct stream {
     char *path;
-    const char *bytes; /* as they were when it was opened */
+    char *head;        /* the first line, without zeroes */
+    const char *bytes; /* as they were when they were read */
     size_t length;     /* of the lines that are whole */
+    size_t before;     /* so many bytes of the file come before these */
     size_t mapped;     /* memory for them */
-    char *program;     /* of the first line */
+    char *program;     /* of the second line */
     long process;      /* by the file's name */
     bool answered;     /* it was asked which mutexes are held, and has answered */
 };
@@ -25,13 +27,13 @@ struct stream {
 bool stream_open(struct stream *stream, const char *path, bool goes_on);
 void stream_close(struct stream *stream);
 
+/* As stream_open, with the lines alone that come after so many bytes of them. The program isn't read. */
+bool stream_open_after(struct stream *stream, const char *path, size_t before, bool goes_on);
+
 /* No more bytes than this are written in the file. It isn't read for that. */
 size_t stream_room(const char *path);
 
 /* The count of that name in the first line; false where there is none. */
 bool stream_count(const struct stream *stream, const char *name, unsigned long *count);
-
-/* The first line, without zeroes, as a text of one's own. */
-char *stream_first_line(const struct stream *stream);
 
 #endif

@@ -4,7 +4,9 @@
 #ifndef RECORD_COLUMNS_H
 #define RECORD_COLUMNS_H
 
+#include <stdbool.h>
 #include <stddef.h>
+#include <stdint.h>
 
 struct columns;
 struct declared;
@@ -18,10 +20,13 @@ void columns_end(struct columns *columns);
 /* That of the place's function of that number, of which the line is known: FILE:LINE. 0 where the column isn't known. */
 unsigned column_at(const struct declared *declared, const struct place *place, size_t frame, const char *site);
 
-/* The same where other calls of the stream stand at other columns of that line; else 0. */
+/* Looks at a further call. Whether columns part calls of a line that they didn't part before: then steps (steps.h) come to be others. */
+bool columns_read(const struct declared *declared, uint32_t place);
+
+/* As column_at where other calls that were looked at stand at other columns of that line; else 0. */
 unsigned column_that_parts(const struct declared *declared, const struct place *place, size_t frame, const char *site);
 
-/* Leaves the columns out of the labels of types, but where two differ in these alone. */
+/* Gives types their labels: without columns, but where two differ in these alone. */
 void columns_of_labels(struct declared *declared);
 
 #endif

@@ -93,6 +93,14 @@ static struct place *new_place(struct declared *declared, const struct line *lin
     return &declared->place[number];
 }
 
+/* Of an object that a place is in. */
+static void find_binary(struct declared *declared, uint32_t number)
+{
+    struct object *object = number < declared->objects ? &declared->object[number] : NULL;
+    if (object && object->path && !object->binary)
+        object->binary = symbols_binary(declared->symbols, object->path);
+}
+
 static void read_place(struct declared *declared, const struct line *line)
 {
     struct place read = {.kind = PLACE_CALL, .function = word_at(declared, line, 4)}, *place;
@@ -102,8 +110,11 @@ static void read_place(struct declared *declared, const struct line *line)
     }
     field_hexadecimal(line, 5, &read.within);
     place = new_place(declared, line);
-    if (place)
-        *place = read;
+    if (!place)
+        return;
+    *place = read;
+    find_binary(declared, read.object);
+    declared->has_news |= columns_read(declared, (uint32_t)(place - declared->place));
 }
 
 /* The two places stand before it: so none leads back to itself. */
@@ -222,11 +233,12 @@ static void read_type(struct declared *declared, const struct line *line)
         return;
     }
     struct type *type = type_at(declared, number);
+    declared->has_news = true;
     type->is_declared = true;
     type->has_variable = has_variable;
     type->variable = variable;
     type->is_met = field_is(line, 2, WORD_MET);
-    type->label = has_label ? word_at(declared, line, 3) : NULL;
+    type->given = type->label = has_label ? word_at(declared, line, 3) : NULL;
     leave_offset_out(type);
     if (field_is(line, 2, WORD_PART))
         read_part(declared, line, type);
@@ -241,6 +253,8 @@ static void read_type(struct declared *declared, const struct line *line)
 static void read_crowded(struct declared *declared, const struct line *line)
 {
     uint32_t number;
+    declared->has_news = true;
+    declared->crowded++;
     if (field_number(line, 1, TYPE_MOST - 1, &number) && number < declared->types)
         leave_offset_out(&declared->type[number]);
     else
@@ -272,8 +286,10 @@ static void read_init(struct declared *declared, const struct line *line)
         return;
     }
     struct type *type = type_at(declared, number);
-    if (!type->class)
-        type->class = texts_copy(declared->texts, line->field[2].at, line->field[2].length);
+    if (type->class)
+        return;
+    type->class = texts_copy(declared->texts, line->field[2].at, line->field[2].length);
+    declared->has_news = true;
 }
 
 static void read_foreign(struct declared *declared, const struct line *line)
@@ -283,10 +299,17 @@ static void read_foreign(struct declared *declared, const struct line *line)
         seat_is_used(declared, seat);
 }
 
+static void read_many(struct declared *declared, const struct line *line)
+{
+    (void)line;
+    declared->lacks_pairs = true;
+}
+
 /* Of calls it is counted what their seats hold and ask for. False where the line is of none. */
-static bool read_call(struct declared *declared, const struct line *line, struct seats *seats)
+static bool read_call(struct declared *declared, const struct line *line)
 {
     uint32_t seat;
+    struct seats *seats = declared->standing;
     bool asks = field_is(line, 0, WORD_CHECK), gets = field_is(line, 0, WORD_LOCK), tries = field_is(line, 0, WORD_TRY);
     bool releases = field_is(line, 0, WORD_UNLOCK);
     if (!asks && !gets && !tries && !releases && !field_is(line, 0, WORD_GIVEUP))
@@ -299,8 +322,10 @@ static bool read_call(struct declared *declared, const struct line *line, struct
         seats->held[seat]++;
     if (releases)
         seats->held[seat]--;
-    else if (!tries)
+    else if (!tries && seats->is_pending[seat] != asks) {
+        declared->pending += asks ? 1 : -1UL;
         seats->is_pending[seat] = asks;
+    }
     if (seats->held[seat] > (long)declared->held)
         declared->held = (unsigned long)seats->held[seat];
     return true;
@@ -322,11 +347,12 @@ static const struct {
     {WORD_TYPE, read_type},
     {WORD_CROWDED, read_crowded},
     {WORD_FOREIGN, read_foreign},
+    {WORD_MANY, read_many},
 };
 
-static void read_line(struct declared *declared, const struct line *line, struct seats *seats)
+static void read_line(struct declared *declared, const struct line *line)
 {
-    if (read_call(declared, line, seats))
+    if (read_call(declared, line))
         return;
     for (size_t i = 0; i < sizeof words / sizeof *words; i++)
         if (field_is(line, 0, words[i].word)) {
@@ -335,36 +361,26 @@ static void read_line(struct declared *declared, const struct line *line, struct
         }
 }
 
-/* Of the objects that places are in. */
-static void find_binaries(struct declared *declared)
+void declared_begin(struct declared *declared, struct symbols *symbols)
 {
-    for (size_t number = 0; number < declared->places; number++) {
-        const struct place *place = &declared->place[number];
-        if (place->kind != PLACE_CALL || !object_of(declared, place->object)->path)
-            continue;
-        struct object *object = &declared->object[place->object];
-        if (!object->binary)
-            object->binary = symbols_binary(declared->symbols, object->path);
-    }
+    *declared = (struct declared){
+        .symbols = symbols,
+        .texts = texts_new(),
+        .derived = texts_new(),
+        .columns = columns_new(),
+        .standing = take(sizeof *declared->standing),
+    };
 }
 
-void declared_read(struct declared *declared, const struct stream *stream, struct symbols *symbols, bool progress)
+void declared_read(struct declared *declared, const char *at, const char *end, bool progress)
 {
     struct line line;
-    struct seats *seats = take(sizeof *seats);
-    const char *at = stream->bytes, *end = stream->bytes + stream->length;
-    *declared = (struct declared){.symbols = symbols, .texts = texts_new(), .columns = columns_new()};
     while (line_next(&line, &at, end)) {
         declared->lines++;
-        read_line(declared, &line, seats);
+        read_line(declared, &line);
         if (progress)
             tell_read(declared->lines);
     }
-    for (size_t seat = 0; seat < SEAT_MOST; seat++)
-        declared->pending += seats->is_pending[seat];
-    free(seats);
-    columns_of_labels(declared);
-    find_binaries(declared);
 }
 
 void declared_end(struct declared *declared)
@@ -373,7 +389,9 @@ void declared_end(struct declared *declared)
     free(declared->place);
     free(declared->stack);
     free(declared->type);
+    free(declared->standing);
     texts_end(declared->texts);
+    texts_end(declared->derived);
     columns_end(declared->columns);
     *declared = (struct declared){0};
 }
@@ -408,7 +426,7 @@ const char *variable_name(const struct declared *declared, const struct variable
         name = say_text("%s%s%s%s%s", symbols_name(declared->symbols, variable->name), within,
             variable->file ? " (" : "", variable->file ? variable->file : "", variable->file ? ")" : "");
     clean_name(name);
-    const char *kept = texts_copy(declared->texts, name, strlen(name));
+    const char *kept = texts_copy(declared->derived, name, strlen(name));
     free(name);
     return kept;
 }

@@ -1,5 +1,5 @@
 /*
- * What a stream declares of objects, places, stacks and types, and how much there is of all: its first reading.
+ * What a stream declares of objects, places, stacks and types, and how much there is of all. It is read as the stream grows.
  */
 #ifndef RECORD_DECLARATIONS_H
 #define RECORD_DECLARATIONS_H
@@ -58,7 +58,8 @@ struct type {
     bool is_declared, has_variable;
     bool is_met; /* no call has made its locks: its places are those of a first use */
     struct variable variable;
-    const char *label; /* the name that the program gives it; NULL of most types */
+    const char *given; /* the name that the program gives it; NULL of most types */
+    const char *label; /* that, as it is told: without its column where no other label has another one */
     uint32_t column; /* in the line at the label's end, also where the label goes without it; 0 where it isn't known */
     const char *class; /* of its first lock; NULL where there is none */
     const uint32_t *place;
@@ -68,6 +69,8 @@ struct type {
     const uint32_t *use; /* of one that no call has made the places of a first use; those above take its blocks */
     size_t uses;
 };
+
+struct seats;
 
 struct declared {
     struct object *object;
@@ -82,13 +85,19 @@ struct declared {
     uint32_t seats;
     unsigned long held; /* the most locks of one seat at once */
     bool is_odd;        /* a number in it can't be one */
+    bool lacks_pairs;   /* of single locks: there was no room for further ones */
+    bool has_news;      /* of types, since that was last set to false */
+    size_t crowded;     /* lines `crowded` */
     struct symbols *symbols;
-    struct texts *texts;
+    struct texts *texts;   /* what it declares */
+    struct texts *derived; /* what is made of that meanwhile */
     struct columns *columns;
+    struct seats *standing; /* what seats hold and ask for where the reading is */
 };
 
-/* Reads it, and asks the symbols for all that is named in it. Tells how far it is where `progress` says so. */
-void declared_read(struct declared *declared, const struct stream *stream, struct symbols *symbols, bool progress);
+void declared_begin(struct declared *declared, struct symbols *symbols);
+/* Reads further lines. Tells how far it is where `progress` says so. */
+void declared_read(struct declared *declared, const char *at, const char *end, bool progress);
 void declared_end(struct declared *declared);
 
 /* The type becomes the one that it would be if nothing were known of its blocks. */

@@ -81,7 +81,7 @@ void function_names_end(struct function_names *names)
 
 static const char *name_by(const struct function_names *names, const struct steps *steps)
 {
-    struct texts *texts = names->declared->texts;
+    struct texts *texts = names->declared->derived;
     for (size_t i = 0; i < steps->count; i++) {
         const char *function = function_at(steps, i);
         if (function && map_find_text(&names->functions, function) == 1)

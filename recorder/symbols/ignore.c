@@ -76,16 +76,15 @@ void ignore_end(struct ignore *ignore)
 
 static void note_match(struct notes *notes, unsigned long line)
 {
-    for (size_t i = 0; notes && i < notes->matches; i++)
+    for (size_t i = 0; i < notes->matches; i++)
         if (notes->matched[i] == line)
             return;
-    if (notes)
-        ADD(notes->matched, notes->matches, notes->matched_room) = line;
+    ADD(notes->matched, notes->matches, notes->matched_room) = line;
 }
 
 /* The word stands for the name, too. */
-static void call(struct called *called, struct peace *peace, const struct ignore *ignore, struct notes *notes,
-    const char *word, const char *name)
+static void call(struct called *called, const struct ignore *ignore, struct notes *notes, const char *word,
+    const char *name)
 {
     size_t *number = map_add_text(&called->words, word), line = map_find_text(&ignore->single, word);
     if (*number == 0) {
@@ -96,7 +95,7 @@ static void call(struct called *called, struct peace *peace, const struct ignore
     ADD(names->name, names->count, names->room) = name;
     if (line == 0)
         return;
-    peace_add_type(peace, name, PEACE_BY_USER);
+    peace_add_type(&notes->peace, name, PEACE_BY_USER);
     note_match(notes, line);
 }
 
@@ -107,7 +106,7 @@ static const struct names *names_of(const struct called *called, const char *wor
 }
 
 /* All pairs of types that the two words of a line stand for. */
-static void bless(struct peace *peace, const struct called *called, const struct ignored_pair *pair, struct notes *notes)
+static void bless(const struct called *called, const struct ignored_pair *pair, struct notes *notes)
 {
     const struct names *first = names_of(called, pair->first), *second = names_of(called, pair->second);
     if (!first || !second)
@@ -116,30 +115,19 @@ static void bless(struct peace *peace, const struct called *called, const struct
     for (size_t i = 0; i < first->count; i++)
         for (size_t j = 0; j < second->count; j++)
             if (strcmp(first->name[i], second->name[j]) != 0)
-                peace_add_pair(peace, first->name[i], second->name[j], PEACE_BY_USER);
-}
-
-static const char *noted(struct notes *notes, const char *text)
-{
-    return text ? texts_copy(notes->texts, text, strlen(text)) : NULL;
+                peace_add_pair(&notes->peace, first->name[i], second->name[j], PEACE_BY_USER);
 }
 
 static void note_alias(struct notes *notes, const struct named_type *type)
 {
-    if (!notes)
-        return;
-    struct lasting kept = type->lasting;
-    kept.name = noted(notes, kept.name);
-    kept.bare = kept.name + (type->lasting.bare - type->lasting.name);
-    kept.build_id = noted(notes, kept.build_id);
     bool has_functions = type->functions && strcmp(type->functions, type->by_lines) != 0;
     ADD(notes->alias, notes->aliases, notes->alias_room) = (struct alias){
-        .type = noted(notes, type->name),
-        .by_lines = noted(notes, type->by_lines),
-        .functions = has_functions ? noted(notes, type->functions) : NULL,
-        .source = noted(notes, type->source),
+        .type = type->name,
+        .by_lines = type->by_lines,
+        .functions = has_functions ? type->functions : NULL,
+        .source = type->source,
         .is_member = type->is_member,
-        .lasting = kept,
+        .lasting = type->lasting,
     };
 }
 
@@ -162,7 +150,7 @@ static char *without_numbers(const char *name)
  * All that the user may call the type: its name, that by lines, those that last, and the functions of its places. Of types
  * that are one each has its own functions and lines, and all stand for the first of them.
  */
-static void call_type(struct called *called, struct peace *peace, const struct ignore *ignore, struct notes *notes,
+static void call_type(struct called *called, const struct ignore *ignore, struct notes *notes,
     const struct named_type *type, bool is_first)
 {
     char *plain = is_first ? without_numbers(type->lasting.name) : copy(""), cut[TRACE_NAME_MOST + 1];
@@ -176,24 +164,25 @@ static void call_type(struct called *called, struct peace *peace, const struct i
         for (size_t j = 0; is_new && j < i; j++)
             is_new = !word[j] || strcmp(word[j], word[i]) != 0;
         if (is_new)
-            call(called, peace, ignore, notes, word[i], type->name);
+            call(called, ignore, notes, word[i], type->name);
     }
     free(plain);
 }
 
-void peace_begin(struct peace *peace, const struct ignore *ignore, const struct types *types, struct notes *notes)
+void peace_begin(struct notes *notes, const struct ignore *ignore, const struct types *types)
 {
     struct called called = {0};
-    *peace = (struct peace){0};
+    peace_end(&notes->peace);
+    notes->aliases = notes->matches = 0;
     for (uint32_t number = 1; number < types->count; number++) {
         const struct named_type *type = &types->type[number];
         bool is_first = type->first == number;
-        call_type(&called, peace, ignore, notes, type, is_first);
+        call_type(&called, ignore, notes, type, is_first);
         if (is_first)
             note_alias(notes, type);
     }
     for (size_t i = 0; i < ignore->pairs; i++)
-        bless(peace, &called, &ignore->pair[i], notes);
+        bless(&called, &ignore->pair[i], notes);
     for (size_t i = 0; i < called.lists; i++)
         free(called.list[i].name);
     free(called.list);

@@ -29,9 +29,9 @@ void ignore_read(struct ignore *ignore, const char *path);
 void ignore_end(struct ignore *ignore);
 
 /*
- * What is to be left in peace of these types. Notes which lines name them, and what types are called besides; without notes
- * that isn't told.
+ * Notes what is to be left in peace of these types, which lines name them, and what types are called besides: in place of what
+ * was noted of that before. The aliases have the texts of the types.
  */
-void peace_begin(struct peace *peace, const struct ignore *ignore, const struct types *types, struct notes *notes);
+void peace_begin(struct notes *notes, const struct ignore *ignore, const struct types *types);
 
 #endif

@@ -257,7 +257,7 @@ static const char *build_ids(const struct making_name *name)
         ids = more;
         seen[count++] = object;
     }
-    const char *kept = texts_copy(declared->texts, ids, strlen(ids));
+    const char *kept = texts_copy(declared->derived, ids, strlen(ids));
     free(ids);
     return kept;
 }
@@ -285,7 +285,7 @@ const char *lasting_functions(const struct declared *declared, const struct type
     begin_steps(&name);
     say_steps(&name);
     clean_name(name.text);
-    const char *kept = texts_copy(declared->texts, name.text, strlen(name.text));
+    const char *kept = texts_copy(declared->derived, name.text, strlen(name.text));
     steps_end(&name.steps);
     free(name.text);
     return kept;
@@ -318,7 +318,7 @@ struct lasting lasting_of(const struct declared *declared, const struct types *t
         name.lasts = false;
     }
     clean_name(name.text);
-    const char *kept = texts_copy(declared->texts, name.text, strlen(name.text));
+    const char *kept = texts_copy(declared->derived, name.text, strlen(name.text));
     struct lasting lasting = {kept, kept + name.head, name.lasts, name.lasts ? NULL : build_ids(&name)};
     steps_end(&name.steps);
     free(name.text);

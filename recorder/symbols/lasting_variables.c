@@ -68,7 +68,7 @@ const char *variable_lock_name(const struct declared *declared, const struct var
         return variable_name(declared, variable);
     char *name = variable->file ? say_text("%s (%s)", part, variable->file) : copy(part);
     clean_name(name);
-    const char *kept = texts_copy(declared->texts, name, strlen(name));
+    const char *kept = texts_copy(declared->derived, name, strlen(name));
     free(part);
     free(name);
     return kept;

@@ -14,8 +14,23 @@ struct made_lock {
     struct variable variable;      /* that it is in; its object is 0 where it is in none */
 };
 
-/* Of a line `init`, which is read once: locks of a member are counted. False where a number in it can't be one. */
+/* How many locks of each type were read, by the numbers of the types in the stream. A new struct is all zeroes. */
+struct lock_counts {
+    struct lock_count {
+        bool is_met;      /* it has a lock */
+        uint32_t several; /* of a first one: so many types with locks are one with it */
+        uint32_t highest; /* and the highest number of its locks */
+    } * of;
+    size_t types;
+};
+
+/*
+ * Of a line `init`. The locks of types that are one are counted, so each line is read once. False where a number in it can't
+ * be one.
+ */
 bool made_lock_read(struct made_lock *made, const struct line *line, const struct declared *declared,
-    struct types *types);
+    const struct types *types, struct lock_counts *counts);
+
+void lock_counts_end(struct lock_counts *counts);
 
 #endif

@@ -17,18 +17,22 @@
 
 enum { LINES_BETWEEN = 1 << 16 };
 
-struct writing {
+struct named_lines {
     const struct making *making;
     FILE *to;
     struct notes *notes;
     bool has_callers;           /* places are told with their threads and callers */
     struct map spots;           /* by place, stack and thread, from 1 on */
     struct map framed;          /* by place and stack, from 1 on */
-    bool *is_named;             /* types that have their names by now, by the stream's numbers */
+    struct lock_counts counts;
+    bool *is_named; /* types that have their names by now, by the stream's numbers */
+    size_t named_room;
+    size_t tellings, steps; /* of single locks: so many have their sites */
     uint32_t sitter[SEAT_MOST]; /* the thread that has each seat, as the kernel counts; 0 where it isn't known */
     size_t owner[SEAT_MOST];    /* the event that tells the owner of what the seat waits for, from 1 on; 0 for none */
     struct pairs_reading pairs; /* what seats hold, where pairs of locks are noted */
     uint32_t now;               /* in milliseconds */
+    unsigned long lines; /* that were read */
     bool is_odd;
 };
 
@@ -38,44 +42,51 @@ static void put_bytes(FILE *to, const char *bytes, size_t length)
 }
 
 /* The line as it stands. */
-static void put_line(struct writing *writing, const struct line *line)
+static void put_line(struct named_lines *writing, const struct line *line)
 {
     put_bytes(writing->to, line->at, (size_t)(line->end - line->at));
     putc_unlocked('\n', writing->to);
 }
 
-/* What is noted of the whole. */
-static void note_whole(struct writing *writing)
+/* An object in which stacks end, once. */
+static void note_blind(struct notes *notes, const char *object)
 {
-    const struct declared *declared = writing->making->declared;
-    struct notes *notes = writing->notes;
-    notes->pending = declared->pending;
-    for (uint32_t number = 0; number < declared->objects; number++)
-        if (declared->object[number].is_blind) {
-            char *name = copy(object_name(declared, number));
-            clean_name(name);
-            ADD(notes->blind, notes->blinds, notes->blind_room) = texts_copy(notes->texts, name, strlen(name));
-            free(name);
-        }
+    char *name = copy(object);
+    size_t at = 0;
+    clean_name(name);
+    while (at < notes->blinds && strcmp(notes->blind[at], name) != 0)
+        at++;
+    if (at == notes->blinds)
+        ADD(notes->blind, notes->blinds, notes->blind_room) = texts_copy(notes->texts, name, strlen(name));
+    free(name);
 }
 
-/* The types of single locks: by the file's numbers, since a lock of a pair needn't be one of the trace. */
-static void note_types(struct writing *writing)
+/* What is noted of the whole. */
+static void note_whole(struct named_lines *writing)
+{
+    const struct declared *declared = writing->making->declared;
+    writing->notes->pending = declared->pending;
+    for (uint32_t number = 0; number < declared->objects; number++)
+        if (declared->object[number].is_blind)
+            note_blind(writing->notes, object_name(declared, number));
+}
+
+/* By the file's numbers, since a lock of a pair needn't be one of the trace. */
+void named_lines_note_types(struct named_lines *writing)
 {
     const struct types *types = writing->making->types;
     struct single *single = &writing->notes->single;
-    for (size_t i = 0; i < types->count; i++) {
-        const struct named_type *type = &types->type[types->type[i].first];
-        const char *name = type->name ? texts_copy(writing->notes->texts, type->name, strlen(type->name)) : NULL;
-        ADD(single->type, single->types, single->type_room) = (struct single_type){types->type[i].first, name};
-    }
+    single->types = 0;
+    for (size_t i = 0; i < types->count; i++)
+        ADD(single->type, single->types, single->type_room) = types->type[i].name;
 }
 
 /* What single locks lack: calls that aren't in the file, and locks that a thread held besides. */
-static void note_lost(struct writing *writing)
+static void note_lost(struct named_lines *writing)
 {
     unsigned long held = 0;
     struct single *single = &writing->notes->single;
+    single->lost = 0;
     stream_count(writing->making->stream, "log", &single->lost);
     stream_count(writing->making->stream, "held", &held);
     single->lost += held;
@@ -88,7 +99,7 @@ static uint32_t place_in(const struct line *line, unsigned field)
     return field_number(line, field, PLACE_MOST - 1, &place) ? place : 0;
 }
 
-static uint32_t frames_number(struct writing *writing, uint32_t place, uint32_t stack)
+static uint32_t frames_number(struct named_lines *writing, uint32_t place, uint32_t stack)
 {
     const uint32_t key[] = {place, stack};
     struct notes *notes = writing->notes;
@@ -101,7 +112,7 @@ static uint32_t frames_number(struct writing *writing, uint32_t place, uint32_t 
 }
 
 /* The line of the place, as a trace has it, and no more. */
-static struct spot bare_spot(struct writing *writing, uint32_t place)
+static struct spot bare_spot(struct named_lines *writing, uint32_t place)
 {
     char *site = place_in_trace(site_of(writing->making->sites, place));
     struct spot spot = {.site = texts_copy(writing->notes->texts, site, strlen(site))};
@@ -110,7 +121,7 @@ static struct spot bare_spot(struct writing *writing, uint32_t place)
 }
 
 /* The number under which the notes have the place's line, its frames and its thread. */
-static size_t spot_number(struct writing *writing, uint32_t place, uint32_t stack, uint32_t thread)
+static size_t spot_number(struct named_lines *writing, uint32_t place, uint32_t stack, uint32_t thread)
 {
     const uint32_t key[] = {place, writing->has_callers ? stack : 0, writing->has_callers ? thread : 0};
     struct notes *notes = writing->notes;
@@ -129,7 +140,7 @@ static size_t spot_number(struct writing *writing, uint32_t place, uint32_t stac
 }
 
 /* The place of a call, which is the field of that number: it is put, and answered, as a spot. A stack may follow. */
-static size_t put_place(struct writing *writing, const struct line *line, unsigned field)
+static size_t put_place(struct named_lines *writing, const struct line *line, unsigned field)
 {
     uint32_t seat, stack = 0, place = place_in(line, field);
     char digits[24], *at = digits + sizeof digits;
@@ -147,7 +158,7 @@ static size_t put_place(struct writing *writing, const struct line *line, unsign
 }
 
 /* A call's line with its place, whose number is the answer; 0 where it has none. */
-static size_t put_placed(struct writing *writing, const struct line *line, unsigned field)
+static size_t put_placed(struct named_lines *writing, const struct line *line, unsigned field)
 {
     if (field >= line->count) {
         put_line(writing, line);
@@ -158,14 +169,14 @@ static size_t put_placed(struct writing *writing, const struct line *line, unsig
 }
 
 /* Whether pairs of locks are noted, and the line is a call of a seat for a lock. */
-static bool pairs_are_read(const struct writing *writing, const struct line *line, uint32_t *seat, uint32_t *lock)
+static bool pairs_are_read(const struct named_lines *writing, const struct line *line, uint32_t *seat, uint32_t *lock)
 {
     return writing->making->has_pairs && field_number(line, 1, SEAT_MOST - 1, seat)
         && field_number(line, 2, LOCK_MOST, lock);
 }
 
 /* What was told of the seat's wait is of one that is over. */
-static void end_wait(struct writing *writing, const struct line *line)
+static void end_wait(struct named_lines *writing, const struct line *line)
 {
     uint32_t seat;
     if (!field_number(line, 1, SEAT_MOST - 1, &seat) || !writing->owner[seat])
@@ -174,7 +185,7 @@ static void end_wait(struct writing *writing, const struct line *line)
     writing->owner[seat] = 0;
 }
 
-static void put_check(struct writing *writing, const struct line *line)
+static void put_check(struct named_lines *writing, const struct line *line)
 {
     uint32_t seat, lock;
     end_wait(writing, line);
@@ -183,7 +194,7 @@ static void put_check(struct writing *writing, const struct line *line)
         pairs_ask(&writing->pairs, &writing->notes->pairs, seat, lock, spot);
 }
 
-static void put_try(struct writing *writing, const struct line *line)
+static void put_try(struct named_lines *writing, const struct line *line)
 {
     uint32_t seat, lock;
     size_t spot = put_placed(writing, line, 4);
@@ -191,7 +202,7 @@ static void put_try(struct writing *writing, const struct line *line)
         pairs_try(&writing->pairs, seat, lock, spot);
 }
 
-static void put_lock(struct writing *writing, const struct line *line)
+static void put_lock(struct named_lines *writing, const struct line *line)
 {
     uint32_t seat, lock;
     put_line(writing, line);
@@ -199,7 +210,7 @@ static void put_lock(struct writing *writing, const struct line *line)
         pairs_get(&writing->pairs, seat, lock);
 }
 
-static void put_unlock(struct writing *writing, const struct line *line)
+static void put_unlock(struct named_lines *writing, const struct line *line)
 {
     uint32_t seat, lock;
     put_line(writing, line);
@@ -207,7 +218,7 @@ static void put_unlock(struct writing *writing, const struct line *line)
         pairs_release(&writing->pairs, seat, lock);
 }
 
-static void put_give_up(struct writing *writing, const struct line *line)
+static void put_give_up(struct named_lines *writing, const struct line *line)
 {
     uint32_t seat, lock;
     put_line(writing, line);
@@ -215,7 +226,7 @@ static void put_give_up(struct writing *writing, const struct line *line)
         pairs_give_up(&writing->pairs, seat);
 }
 
-static void keep_lock(struct writing *writing, const struct made_lock *made, const struct line *line)
+static void keep_lock(struct named_lines *writing, const struct made_lock *made, const struct line *line)
 {
     struct notes *notes = writing->notes;
     struct field class = line->count > 2 ? line->field[2] : (struct field){"", 0};
@@ -229,14 +240,27 @@ static void keep_lock(struct writing *writing, const struct made_lock *made, con
     };
 }
 
+/* Whether the type had its name before; it has it from here on. */
+static bool is_named(struct named_lines *writing, uint32_t type)
+{
+    if (type >= writing->named_room) {
+        size_t room = 2 * ((size_t)type + 1);
+        writing->is_named = grow(writing->is_named, room, sizeof *writing->is_named);
+        memset(writing->is_named + writing->named_room, 0, room - writing->named_room);
+        writing->named_room = room;
+    }
+    bool was_named = writing->is_named[type];
+    writing->is_named[type] = true;
+    return was_named;
+}
+
 /* The name of the stream's type, before its first lock; what a cut one stands for is noted. */
-static void put_name(struct writing *writing, const struct made_lock *made)
+static void put_name(struct named_lines *writing, const struct made_lock *made)
 {
     char cut[TRACE_NAME_MOST + 1];
     const char *name = made->type->name;
-    if (made->number == 0 || writing->is_named[made->number])
+    if (made->number == 0 || is_named(writing, made->number))
         return;
-    writing->is_named[made->number] = true;
     trace_name(cut, name);
     fprintf(writing->to, "name %" PRIu32 " \"%s\"\n", made->number, cut);
     if (strlen(name) > TRACE_NAME_MOST)
@@ -244,7 +268,7 @@ static void put_name(struct writing *writing, const struct made_lock *made)
 }
 
 /* Types that are one have the number of the first. The variable, which may be long, is left out. */
-static void put_made(struct writing *writing, const struct made_lock *made, const struct line *line)
+static void put_made(struct named_lines *writing, const struct made_lock *made, const struct line *line)
 {
     enum { FIELD_TYPE = 4, FIELDS = 6 };
     if (made->number == 0 || line->count < FIELDS) {
@@ -256,11 +280,11 @@ static void put_made(struct writing *writing, const struct made_lock *made, cons
         line->field[FIELD_TYPE + 1].at);
 }
 
-static void put_init(struct writing *writing, const struct line *line)
+static void put_init(struct named_lines *writing, const struct line *line)
 {
     enum { FIELD_FLAGS = 3 };
     struct made_lock made;
-    if (!made_lock_read(&made, line, writing->making->declared, writing->making->types))
+    if (!made_lock_read(&made, line, writing->making->declared, writing->making->types, &writing->counts))
         writing->is_odd = true;
     keep_lock(writing, &made, line);
     if (line->count > FIELD_FLAGS && memchr(line->field[FIELD_FLAGS].at, *INIT_SHARED, line->field[FIELD_FLAGS].length))
@@ -270,7 +294,7 @@ static void put_init(struct writing *writing, const struct line *line)
 }
 
 /* A place for what is noted beside calls. */
-static struct event *new_event(struct writing *writing, enum event_kind kind, const struct line *line)
+static struct event *new_event(struct named_lines *writing, enum event_kind kind, const struct line *line)
 {
     struct notes *notes = writing->notes;
     struct event *event = &ADD(notes->event, notes->events, notes->event_room);
@@ -282,7 +306,7 @@ static struct event *new_event(struct writing *writing, enum event_kind kind, co
 }
 
 /* The lock whose number is in that field, with its name. */
-static void note_lock(struct writing *writing, struct event *event, const struct line *line, unsigned field)
+static void note_lock(struct named_lines *writing, struct event *event, const struct line *line, unsigned field)
 {
     uint32_t number;
     if (!field_number(line, field, LOCK_MOST, &number)) {
@@ -294,7 +318,7 @@ static void note_lock(struct writing *writing, struct event *event, const struct
         event->name = writing->notes->lock[number - 1].name;
 }
 
-static void note_again(struct writing *writing, const struct line *line)
+static void note_again(struct named_lines *writing, const struct line *line)
 {
     struct event *event = new_event(writing, EVENT_AGAIN, line);
     note_lock(writing, event, line, 2);
@@ -302,7 +326,7 @@ static void note_again(struct writing *writing, const struct line *line)
 }
 
 /* The last wait of that seat is over. */
-static void note_went(struct writing *writing, const struct line *line)
+static void note_went(struct named_lines *writing, const struct line *line)
 {
     struct notes *notes = writing->notes;
     uint32_t seat;
@@ -317,7 +341,7 @@ static void note_went(struct writing *writing, const struct line *line)
     }
 }
 
-static void note_foreign(struct writing *writing, const struct line *line)
+static void note_foreign(struct named_lines *writing, const struct line *line)
 {
     struct event *event = new_event(writing, EVENT_FOREIGN, line);
     note_lock(writing, event, line, 2);
@@ -325,7 +349,7 @@ static void note_foreign(struct writing *writing, const struct line *line)
 }
 
 /* `error WORD SEAT LOCK PLACE`. */
-static void note_error(struct writing *writing, const struct line *line)
+static void note_error(struct named_lines *writing, const struct line *line)
 {
     struct notes *notes = writing->notes;
     struct event *event = &ADD(notes->event, notes->events, notes->event_room);
@@ -336,12 +360,12 @@ static void note_error(struct writing *writing, const struct line *line)
     event->site = site_of(writing->making->sites, place_in(line, 4));
 }
 
-static void note_single(struct writing *writing, const struct line *line)
+static void note_single(struct named_lines *writing, const struct line *line)
 {
     single_read(&writing->notes->single, line->at, (size_t)(line->end - line->at));
 }
 
-static void note_site(struct writing *writing, uint32_t place)
+static void note_site(struct named_lines *writing, uint32_t place)
 {
     struct single *single = &writing->notes->single;
     if (place > 0 && place < single->sites && !single->site[place])
@@ -349,23 +373,27 @@ static void note_site(struct writing *writing, uint32_t place)
 }
 
 /* Where threads asked for single locks, and where they got what they had by then. */
-static void note_sites(struct writing *writing)
+static void note_sites(struct named_lines *writing)
 {
     struct single *single = &writing->notes->single;
-    single->sites = writing->making->declared->places;
-    single->site = take((single->sites + 1) * sizeof *single->site);
-    for (size_t i = 0; i < single->tellings; i++)
-        note_site(writing, single->telling[i].place);
-    for (size_t i = 0; i < single->steps; i++)
-        note_site(writing, single->step[i].place);
+    size_t places = writing->making->declared->places;
+    if (places > single->sites) {
+        single->site = grow(single->site, places, sizeof *single->site);
+        memset(single->site + single->sites, 0, (places - single->sites) * sizeof *single->site);
+        single->sites = places;
+    }
+    for (; writing->tellings < single->tellings; writing->tellings++)
+        note_site(writing, single->telling[writing->tellings].place);
+    for (; writing->steps < single->steps; writing->steps++)
+        note_site(writing, single->step[writing->steps].place);
 }
 
-static void note_answer(struct writing *writing, const struct line *line)
+static void note_answer(struct named_lines *writing, const struct line *line)
 {
     new_event(writing, EVENT_ANSWER, line);
 }
 
-static void note_holder(struct writing *writing, const struct line *line)
+static void note_holder(struct named_lines *writing, const struct line *line)
 {
     uint32_t thread = 0;
     struct event *event = new_event(writing, EVENT_HOLDER, line);
@@ -374,7 +402,7 @@ static void note_holder(struct writing *writing, const struct line *line)
     event->thread = thread;
 }
 
-static void note_owner(struct writing *writing, const struct line *line)
+static void note_owner(struct named_lines *writing, const struct line *line)
 {
     uint32_t thread = 0, seat;
     end_wait(writing, line);
@@ -386,7 +414,7 @@ static void note_owner(struct writing *writing, const struct line *line)
         writing->owner[seat] = writing->notes->events;
 }
 
-static void note_time(struct writing *writing, const struct line *line)
+static void note_time(struct named_lines *writing, const struct line *line)
 {
     uint32_t now;
     if (field_number(line, 1, UINT32_MAX - 1, &now))
@@ -394,7 +422,7 @@ static void note_time(struct writing *writing, const struct line *line)
 }
 
 /* The function that made the thread, and where. */
-static void note_maker(struct writing *writing, struct event *event, uint32_t number)
+static void note_maker(struct named_lines *writing, struct event *event, uint32_t number)
 {
     struct sites *sites = writing->making->sites;
     const struct declared *declared = sites->declared;
@@ -408,7 +436,7 @@ static void note_maker(struct writing *writing, struct event *event, uint32_t nu
     event->site = site_of(sites, number);
 }
 
-static void note_thread(struct writing *writing, const struct line *line)
+static void note_thread(struct named_lines *writing, const struct line *line)
 {
     uint32_t thread = 0, seat;
     struct event *event = new_event(writing, EVENT_THREAD, line);
@@ -426,7 +454,7 @@ static void note_thread(struct writing *writing, const struct line *line)
 /* Each word of which something is written or noted, those that are met most often first. */
 static const struct {
     const char *word;
-    void (*puts)(struct writing *writing, const struct line *line);
+    void (*puts)(struct named_lines *writing, const struct line *line);
 } words[] = {
     {WORD_CHECK, put_check},
     {WORD_LOCK, put_lock},
@@ -450,7 +478,7 @@ static const struct {
     {WORD_JOINED, note_single},
 };
 
-static void write_line(struct writing *writing, const struct line *line)
+static void write_line(struct named_lines *writing, const struct line *line)
 {
     for (size_t i = 0; i < sizeof words / sizeof *words; i++)
         if (field_is(line, 0, words[i].word)) {
@@ -459,41 +487,41 @@ static void write_line(struct writing *writing, const struct line *line)
         }
 }
 
-/* All lines, or those up to a failure. */
-static void write_lines(struct writing *writing)
+struct named_lines *named_lines_new(const struct making *making, struct notes *notes)
 {
-    struct line line;
-    const struct making *making = writing->making;
-    const char *at = making->stream->bytes, *end = making->stream->bytes + making->stream->length;
-    for (unsigned long lines = 1; line_next(&line, &at, end); lines++) {
-        write_line(writing, &line);
-        if (lines % LINES_BETWEEN == 0 && ferror(writing->to))
-            break;
-        if (making->progress)
-            tell_resolved(lines, making->declared->lines);
-    }
-}
-
-bool named_lines_write(const struct making *making, FILE *to, struct notes *notes)
-{
-    struct writing *writing = take(sizeof *writing);
+    struct named_lines *writing = take(sizeof *writing);
     writing->making = making;
-    writing->to = to;
     writing->notes = notes;
     writing->has_callers = notes->has_callers = making->frames > 1 || making->is_learnt;
-    writing->is_named = take((making->types->count + 1) * sizeof *writing->is_named);
-    note_lost(writing);
-    note_whole(writing);
-    note_types(writing);
-    fprintf(to, WORD_ASKED " %c " WORD_VERSION " %d\n", ASKED_NOT, FORMAT_VERSION);
-    write_lines(writing);
-    note_sites(writing);
-    single_sort(&notes->single);
-    bool written = fflush(to) == 0 && !ferror(to) && !writing->is_odd;
+    return writing;
+}
+
+void named_lines_end(struct named_lines *writing)
+{
     pairs_reading_end(&writing->pairs);
+    lock_counts_end(&writing->counts);
     map_end(&writing->spots);
     map_end(&writing->framed);
     free(writing->is_named);
     free(writing);
-    return written;
+}
+
+bool named_lines_write(struct named_lines *writing, const char *at, const char *end, FILE *to)
+{
+    struct line line;
+    writing->to = to;
+    if (writing->lines == 0)
+        fprintf(to, WORD_ASKED " %c " WORD_VERSION " %d\n", ASKED_NOT, FORMAT_VERSION);
+    while (line_next(&line, &at, end)) {
+        write_line(writing, &line);
+        if (++writing->lines % LINES_BETWEEN == 0 && ferror(to))
+            break;
+        if (writing->making->progress)
+            tell_resolved(writing->lines, writing->making->declared->lines);
+    }
+    note_lost(writing);
+    note_whole(writing);
+    note_sites(writing);
+    single_sort(&writing->notes->single);
+    return fflush(to) == 0 && !ferror(to) && !writing->is_odd;
 }

@@ -8,7 +8,19 @@
 #include "notes.h"
 #include "trace.h"
 
-/* The notes have their texts, and nothing else. False where lines can't be written, or one of the stream can't be one. */
-bool named_lines_write(const struct making *making, FILE *to, struct notes *notes);
+struct named_lines;
+
+/* The notes are added to; what `making` points to, it reads each time. */
+struct named_lines *named_lines_new(const struct making *making, struct notes *notes);
+void named_lines_end(struct named_lines *lines);
+
+/* The types that are noted of single locks are those of the making. */
+void named_lines_note_types(struct named_lines *lines);
+
+/*
+ * Writes what these lines of the stream are for the verifier, which come after those before. False where it can't be written,
+ * or one of them can't be one.
+ */
+bool named_lines_write(struct named_lines *lines, const char *at, const char *end, FILE *to);
 
 #endif

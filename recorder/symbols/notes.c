@@ -22,6 +22,7 @@ void notes_end(struct notes *notes)
     peace_end(&notes->peace);
     lock_pairs_end(&notes->pairs);
     texts_end(notes->texts);
+    texts_end(notes->derived);
     *notes = (struct notes){0};
 }
 

@@ -115,7 +115,8 @@ struct notes {
     struct lock_pairs pairs; /* of single locks, where orders are learnt or reports are to be confirmed */
     unsigned long pending;   /* requests that never ended */
     bool has_shared;         /* a lock may be taken by other processes, too */
-    void *texts;             /* what the texts stand in */
+    struct texts *texts;     /* what the texts stand in */
+    struct texts *derived;   /* those of aliases and of the types of single locks */
 };
 
 void notes_end(struct notes *notes);

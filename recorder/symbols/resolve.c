@@ -1,5 +1,6 @@
 #include "resolve.h"
 
+#include "columns.h"
 #include "declarations.h"
 #include "ignore.h"
 #include "allocation.h"
@@ -53,67 +54,144 @@ void resolver_keeps(struct resolver *resolver, const struct stream *stream, cons
     told_names_add(resolver->told, stream->path, alias->source, alias->type);
 }
 
-/* What is known of a stream before its lines are written. */
-struct known {
+struct resolving {
+    struct resolver *resolver;
+    char *path;
+    size_t read;
+    size_t crowded; /* types that were crowded by then */
+    bool is_bad;
     struct declared declared;
     struct types types;
-    struct peace peace;
     struct sites sites;
+    struct right_requests *requests;
     struct making making;
+    struct named_lines *lines;
+    struct notes notes;
 };
 
-/* Without notes, where a trace alone is wanted. */
-static void known_begin(struct known *known, struct resolver *resolver, const struct stream *stream, struct notes *notes)
+struct resolving *resolving_new(struct resolver *resolver, const struct stream *stream)
 {
     const struct settings *settings = resolver->settings;
-    declared_read(&known->declared, stream, resolver->symbols, settings->progress);
-    sites_begin(&known->sites, &known->declared, settings->directory, notes ? notes->texts : known->declared.texts);
-    types_begin(&known->types, &known->declared);
-    type_names_give(&known->types, &known->declared, resolver->told, stream->path);
-    peace_begin(&known->peace, &resolver->ignore, &known->types, notes);
-    right_orders_silence(&resolver->right, stream, &known->declared, &known->types, &known->peace, notes);
+    struct resolving *resolving = take(sizeof *resolving);
     bool is_learnt = (settings->learn && *settings->learn) || (settings->known && *settings->known);
-    known->making = (struct making){
-        .stream = stream,
-        .declared = &known->declared,
-        .types = &known->types,
-        .peace = &known->peace,
-        .sites = &known->sites,
+    resolving->resolver = resolver;
+    resolving->path = copy(stream->path);
+    resolving->notes.texts = texts_new();
+    declared_begin(&resolving->declared, resolver->symbols);
+    sites_begin(&resolving->sites, &resolving->declared, settings->directory, resolving->notes.texts);
+    resolving->requests = right_requests_new(&resolver->right, &resolving->declared);
+    resolving->making = (struct making){
+        .declared = &resolving->declared,
+        .types = &resolving->types,
+        .peace = &resolving->notes.peace,
+        .sites = &resolving->sites,
         .frames = settings->frames > 1 ? (size_t)settings->frames : 1,
         .is_learnt = is_learnt,
         .has_pairs = is_learnt || settings->confirm > 0,
         .progress = settings->progress,
     };
+    resolving->lines = named_lines_new(&resolving->making, &resolving->notes);
+    return resolving;
 }
 
-static void known_end(struct known *known)
+void resolving_end(struct resolving *resolving)
 {
-    types_end(&known->types);
-    sites_end(&known->sites);
-    declared_end(&known->declared);
+    if (!resolving)
+        return;
+    named_lines_end(resolving->lines);
+    right_requests_end(resolving->requests);
+    types_end(&resolving->types);
+    sites_end(&resolving->sites);
+    declared_end(&resolving->declared);
+    notes_end(&resolving->notes);
+    free(resolving->path);
+    free(resolving);
 }
 
-bool resolve(struct resolver *resolver, const struct stream *stream, FILE *lines, struct notes *notes)
+size_t resolving_read(const struct resolving *resolving)
 {
-    struct known known;
-    *notes = (struct notes){.texts = texts_new()};
-    if (resolver->ignore.is_unread)
+    return resolving->read;
+}
+
+const struct notes *resolving_notes(const struct resolving *resolving)
+{
+    return &resolving->notes;
+}
+
+struct notes resolving_leaves_notes(struct resolving *resolving)
+{
+    struct notes notes = resolving->notes;
+    notes.derived = resolving->declared.derived;
+    resolving->declared.derived = NULL;
+    resolving->notes = (struct notes){0};
+    resolving_end(resolving);
+    return notes;
+}
+
+/* Names the types that are there by now. False where an earlier one has another name than it had. */
+static bool name_types(struct resolving *resolving)
+{
+    struct declared *declared = &resolving->declared;
+    struct types before = resolving->types;
+    struct texts *derived = declared->derived;
+    declared->derived = texts_new();
+    columns_of_labels(declared);
+    types_begin(&resolving->types, declared);
+    type_names_give(&resolving->types, declared, resolving->resolver->told, resolving->path);
+    bool stays = types_stay(&before, &resolving->types);
+    named_lines_note_types(resolving->lines);
+    types_end(&before);
+    texts_end(derived);
+    declared->has_news = false;
+    return stays;
+}
+
+/* Reads what the lines declare. False where what was written before has other names by now. */
+static bool declare(struct resolving *resolving, const char *at, const char *end)
+{
+    struct declared *declared = &resolving->declared;
+    bool is_first = resolving->read == 0;
+    declared_read(declared, at, end, resolving->making.progress);
+    bool has_news = declared->has_news;
+    bool is_crowded = declared->crowded > resolving->crowded;
+    resolving->crowded = declared->crowded;
+    if ((has_news || is_first) && !name_types(resolving))
         return false;
-    known_begin(&known, resolver, stream, notes);
-    bool written = named_lines_write(&known.making, lines, notes) && !known.declared.is_odd;
-    notes->peace = known.peace;
-    known_end(&known);
-    return written;
+    if (is_crowded && !is_first)
+        return false;
+    bool has_requests = right_requests_read(resolving->requests, &resolving->types, at, end);
+    if (!has_news && !is_first && !has_requests)
+        return true;
+    peace_begin(&resolving->notes, &resolving->resolver->ignore, &resolving->types);
+    right_requests_silence(resolving->requests, &resolving->types, &resolving->notes);
+    return true;
+}
+
+enum resolved resolving_goes_on(struct resolving *resolving, const struct stream *stream, FILE *lines)
+{
+    if (resolving->resolver->ignore.is_unread)
+        return RESOLVED_BADLY;
+    if (resolving->read < stream->before || resolving->read > stream->before + stream->length)
+        return RESOLVED_ANEW;
+    const char *at = stream->bytes + (resolving->read - stream->before), *end = stream->bytes + stream->length;
+    resolving->making.stream = stream;
+    resolving->making.progress = resolving->resolver->settings->progress;
+    if (!declare(resolving, at, end))
+        return RESOLVED_ANEW;
+    resolving->is_bad |= !named_lines_write(resolving->lines, at, end, lines);
+    resolving->is_bad |= resolving->declared.is_odd;
+    resolving->read = stream->before + stream->length;
+    return resolving->is_bad ? RESOLVED_BADLY : RESOLVED;
 }
 
 bool resolve_trace(struct resolver *resolver, const struct stream *stream, FILE *trace)
 {
-    struct known known;
     if (resolver->ignore.is_unread)
         return false;
-    known_begin(&known, resolver, stream, NULL);
-    bool written = trace_write(&known.making, trace) && !known.declared.is_odd;
-    peace_end(&known.peace);
-    known_end(&known);
+    struct resolving *resolving = resolving_new(resolver, stream);
+    resolving->making.stream = stream;
+    declare(resolving, stream->bytes, stream->bytes + stream->length);
+    bool written = trace_write(&resolving->making, trace) && !resolving->declared.is_odd;
+    resolving_end(resolving);
     return written;
 }

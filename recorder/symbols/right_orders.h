@@ -9,12 +9,12 @@
 #ifndef RECORD_RIGHT_ORDERS_H
 #define RECORD_RIGHT_ORDERS_H
 
+#include <stdbool.h>
 #include <stddef.h>
 
 #include "declarations.h"
 #include "ignore.h"
 #include "notes.h"
-#include "stream_file.h"
 #include "types.h"
 
 enum { RIGHT_FUNCTIONS = 8 };
@@ -42,11 +42,19 @@ void right_orders_end(struct right_orders *right);
 /* Where the lists of `record` stand, a text of one's own; NULL where they aren't there. `here` has its script. */
 char *right_orders_place(const char *here);
 
+/* The requests of a stream that the lists are about, as far as it was read. */
+struct right_requests;
+
+struct right_requests *right_requests_new(const struct right_orders *right, const struct declared *declared);
+void right_requests_end(struct right_requests *requests);
+
+/* Reads further lines, all of whose types are among these. Whether there is anything new of what the lists are about. */
+bool right_requests_read(struct right_requests *requests, const struct types *types, const char *at, const char *end);
+
 /*
- * Silences each pair of types, and each type, of which both orders are in the stream, all in the lists' direction are right, and
- * no single locks were taken both ways. The notes have the libraries whose orders these are.
+ * Silences each pair of types, and each type, of which both orders were read, all in the lists' direction are right, and no
+ * single locks were taken both ways. The notes have the libraries whose orders these are, in place of those before.
  */
-void right_orders_silence(const struct right_orders *right, const struct stream *stream,
-    const struct declared *declared, const struct types *types, struct peace *peace, struct notes *notes);
+void right_requests_silence(const struct right_requests *requests, const struct types *types, struct notes *notes);
 
 #endif

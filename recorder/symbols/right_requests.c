@@ -26,16 +26,19 @@ struct met {
     const char *library;
 };
 
-struct reading {
+struct right_requests {
     const struct right_orders *right;
     const struct declared *declared;
     const struct types *types;
-    uint32_t *type; /* of each lock */
+    struct texts *texts;
+    size_t looked;  /* at types before that number */
+    bool has_any;   /* one of them may be a list's; no request that came before need be known */
+    size_t passed;  /* so many locks were made before */
+    uint32_t *type; /* of each further lock */
     size_t locks, lock_room;
     struct held *seat;
     struct map known;  /* requests that are in the list */
     struct map single; /* of two single locks, in that order */
-    bool lacks_pairs;
     struct met *met;
     size_t mets, met_room;
 };
@@ -74,7 +77,7 @@ static bool has_place_in(const struct declared *declared, const struct type *typ
 }
 
 /* Whether the function of the object makes the type's locks, or may: the innermost one has no name. */
-static bool is_made_by(const struct reading *reading, uint32_t number, const char *object, const char *function)
+static bool is_made_by(const struct right_requests *reading, uint32_t number, const char *object, const char *function)
 {
     const struct declared *declared = reading->declared;
     const struct type *type = &declared->type[number];
@@ -95,7 +98,7 @@ static bool is_made_by(const struct reading *reading, uint32_t number, const cha
 }
 
 /* Whether the place is in one of the order's functions; `has_name` where it is in any that has a name, in the object. */
-static bool is_in(const struct reading *reading, const struct place *place, const struct right_order *order,
+static bool is_in(const struct right_requests *reading, const struct place *place, const struct right_order *order,
     bool *has_name)
 {
     const struct declared *declared = reading->declared;
@@ -118,7 +121,7 @@ static bool is_in(const struct reading *reading, const struct place *place, cons
 }
 
 /* Whether a request at that place and with that stack comes by way of one of the order's functions, or may. */
-static bool is_by_way(const struct reading *reading, const struct right_order *order, uint32_t place, uint32_t stack)
+static bool is_by_way(const struct right_requests *reading, const struct right_order *order, uint32_t place, uint32_t stack)
 {
     const struct declared *declared = reading->declared;
     bool has_name = false, is_there = is_in(reading, place_of(declared, place), order, &has_name);
@@ -128,7 +131,7 @@ static bool is_by_way(const struct reading *reading, const struct right_order *o
 }
 
 /* The order of the lists that the request is; NULL where it is none. */
-static const struct right_order *right_order_of(const struct reading *reading, uint32_t held, uint32_t asked,
+static const struct right_order *right_order_of(const struct right_requests *reading, uint32_t held, uint32_t asked,
     uint32_t place, uint32_t stack)
 {
     for (size_t i = 0; i < reading->right->count; i++) {
@@ -141,7 +144,7 @@ static const struct right_order *right_order_of(const struct reading *reading, u
 }
 
 /* The name of the order's object, as it is told. */
-static const char *library_of(const struct reading *reading, uint32_t type)
+static const char *library_of(const struct right_requests *reading, uint32_t type)
 {
     const struct type *declared = &reading->declared->type[type];
     struct steps steps;
@@ -152,10 +155,10 @@ static const char *library_of(const struct reading *reading, uint32_t type)
     steps_end(&steps);
     struct code_words words = {.object = object_name(reading->declared, object)};
     words.object_length = strlen(words.object);
-    return texts_copy(reading->declared->texts, words.object, code_object_told(&words));
+    return texts_copy(reading->texts, words.object, code_object_told(&words));
 }
 
-static void note_request(struct reading *reading, uint32_t held, uint32_t asked, uint32_t place, uint32_t stack)
+static void note_request(struct right_requests *reading, uint32_t held, uint32_t asked, uint32_t place, uint32_t stack)
 {
     const uint32_t key[] = {held, asked, place, stack};
     size_t *known = map_add(&reading->known, key, sizeof key);
@@ -168,13 +171,13 @@ static void note_request(struct reading *reading, uint32_t held, uint32_t asked,
 }
 
 /* Of two types: they aren't silenced. */
-static void add_wrong(struct reading *reading, uint32_t held, uint32_t asked)
+static void add_wrong(struct right_requests *reading, uint32_t held, uint32_t asked)
 {
     ADD(reading->met, reading->mets, reading->met_room) = (struct met){.held = held, .asked = asked, .is_wrong = true};
 }
 
 /* `pair SEAT THREAD AT PLACE LOCK SERIAL TYPE MODE LOCK SERIAL TYPE MODE`: what was taken both ways may hang. */
-static void read_pair(struct reading *reading, const struct line *line)
+static void read_pair(struct right_requests *reading, const struct line *line)
 {
     uint32_t held = 0, asked = 0, held_type = 0, asked_type = 0;
     field_number(line, PAIR_HELD + PAIR_SERIAL, UINT32_MAX - 1, &held);
@@ -193,13 +196,13 @@ static void read_pair(struct reading *reading, const struct line *line)
     add_wrong(reading, asked_type, held_type);
 }
 
-static uint32_t type_of(const struct reading *reading, uint32_t lock)
+static uint32_t type_of(const struct right_requests *reading, uint32_t lock)
 {
-    return lock > 0 && lock <= reading->locks ? reading->type[lock - 1] : 0;
+    return lock > reading->passed && lock - reading->passed <= reading->locks ? reading->type[lock - reading->passed - 1] : 0;
 }
 
 /* `check SEAT LOCK MODE n PLACE STACK`. */
-static void read_check(struct reading *reading, const struct line *line, struct held *seat, uint32_t lock)
+static void read_check(struct right_requests *reading, const struct line *line, struct held *seat, uint32_t lock)
 {
     uint32_t place = 0, stack = 0, asked = type_of(reading, lock);
     field_number(line, 5, PLACE_MOST - 1, &place);
@@ -220,7 +223,7 @@ static void release(struct held *seat, uint32_t lock)
         }
 }
 
-static void read_init(struct reading *reading, const struct line *line)
+static void read_init(struct right_requests *reading, const struct line *line)
 {
     uint32_t number;
     if (!field_number(line, 4, TYPE_MOST - 1, &number) || number >= reading->types->count)
@@ -228,14 +231,13 @@ static void read_init(struct reading *reading, const struct line *line)
     ADD(reading->type, reading->locks, reading->lock_room) = number ? reading->types->type[number].first : 0;
 }
 
-static void read_call(struct reading *reading, const struct line *line)
+static void read_call(struct right_requests *reading, const struct line *line)
 {
     uint32_t number, lock;
     if (field_is(line, 0, WORD_INIT))
         read_init(reading, line);
     if (field_is(line, 0, WORD_PAIR))
         read_pair(reading, line);
-    reading->lacks_pairs |= field_is(line, 0, WORD_MANY);
     if (field_is(line, 0, WORD_INIT) || field_is(line, 0, WORD_PAIR))
         return;
     if (!field_number(line, 1, SEAT_MOST - 1, &number) || !field_number(line, 2, LOCK_MOST, &lock))
@@ -249,20 +251,20 @@ static void read_call(struct reading *reading, const struct line *line)
         release(seat, lock);
 }
 
-/* Whether one of the types may be a list's; else the stream needn't be read. */
-static bool has_any(const struct reading *reading)
+/* Whether the type may be a list's. */
+static bool is_any(const struct right_requests *reading, uint32_t number)
 {
-    for (uint32_t number = 1; number < reading->types->count; number++)
-        for (size_t i = 0; reading->types->type[number].first == number && i < reading->right->count; i++) {
-            const struct right_order *order = &reading->right->order[i];
-            if (is_made_by(reading, number, order->object, order->held))
-                return true;
-        }
+    for (size_t i = 0; i < reading->right->count; i++) {
+        const struct right_order *order = &reading->right->order[i];
+        if (is_made_by(reading, number, order->object, order->held)
+            || is_made_by(reading, number, order->object, order->asked))
+            return true;
+    }
     return false;
 }
 
 /* Whether the two were asked for in that order, and all such requests are right; the library. */
-static const char *library_if_right(const struct reading *reading, uint32_t held, uint32_t asked, bool *is_met)
+static const char *library_if_right(const struct right_requests *reading, uint32_t held, uint32_t asked, bool *is_met)
 {
     const char *library = NULL;
     bool is_wrong = false;
@@ -278,9 +280,11 @@ static const char *library_if_right(const struct reading *reading, uint32_t held
 }
 
 /* What is right of the two is silenced where the other way was met, too. */
-static void silence(const struct reading *reading, const struct met *met, struct peace *peace, struct notes *notes)
+static void silence(const struct right_requests *reading, const struct types *types, const struct met *met,
+    struct notes *notes)
 {
-    const char *held = reading->types->type[met->held].name, *asked = reading->types->type[met->asked].name;
+    struct peace *peace = &notes->peace;
+    const char *held = types->type[met->held].name, *asked = types->type[met->asked].name;
     bool is_met = false, is_other_met = false, is_double = met->held == met->asked;
     const char *library = library_if_right(reading, met->held, met->asked, &is_met);
     library_if_right(reading, met->asked, met->held, &is_other_met);
@@ -290,32 +294,62 @@ static void silence(const struct reading *reading, const struct met *met, struct
         peace_add_type(peace, held, PEACE_AS_RIGHT);
     else
         peace_add_pair(peace, held, asked, PEACE_AS_RIGHT);
-    for (size_t i = 0; notes && i < notes->libraries; i++)
+    for (size_t i = 0; i < notes->libraries; i++)
         if (strcmp(notes->library[i], library) == 0)
             return;
-    if (notes)
-        ADD(notes->library, notes->libraries, notes->library_room) = texts_copy(notes->texts, library, strlen(library));
+    ADD(notes->library, notes->libraries, notes->library_room) = texts_copy(notes->texts, library, strlen(library));
 }
 
-void right_orders_silence(const struct right_orders *right, const struct stream *stream,
-    const struct declared *declared, const struct types *types, struct peace *peace, struct notes *notes)
+struct right_requests *right_requests_new(const struct right_orders *right, const struct declared *declared)
 {
-    struct reading reading = {.right = right, .declared = declared, .types = types};
+    struct right_requests *requests = take(sizeof *requests);
+    requests->right = right;
+    requests->declared = declared;
+    requests->looked = 1;
+    return requests;
+}
+
+void right_requests_end(struct right_requests *requests)
+{
+    for (size_t i = 0; requests->seat && i < SEAT_MOST; i++)
+        free(requests->seat[i].lock);
+    free(requests->seat);
+    free(requests->type);
+    free(requests->met);
+    map_end(&requests->known);
+    map_end(&requests->single);
+    texts_end(requests->texts);
+    free(requests);
+}
+
+/* Looks at the types that are new. Those of the lists are declared before their locks are made. */
+static bool has_any(struct right_requests *requests)
+{
+    for (; requests->looked < requests->types->count && !requests->has_any; requests->looked++)
+        requests->has_any = is_any(requests, (uint32_t)requests->looked);
+    if (!requests->has_any)
+        requests->passed = requests->declared->locks;
+    else if (!requests->seat) {
+        requests->seat = take(SEAT_MOST * sizeof *requests->seat);
+        requests->texts = texts_new();
+    }
+    return requests->has_any;
+}
+
+bool right_requests_read(struct right_requests *requests, const struct types *types, const char *at, const char *end)
+{
     struct line line;
-    const char *at = stream->bytes, *end = stream->bytes + stream->length;
-    if (right->count == 0 || !has_any(&reading))
-        return;
-    reading.seat = take(SEAT_MOST * sizeof *reading.seat);
-    while (line_next(&line, &at, end))
-        read_call(&reading, &line);
-    for (size_t i = 0; i < reading.mets && !reading.lacks_pairs; i++)
-        if (reading.met[i].is_right)
-            silence(&reading, &reading.met[i], peace, notes);
-    for (size_t i = 0; i < SEAT_MOST; i++)
-        free(reading.seat[i].lock);
-    free(reading.seat);
-    free(reading.type);
-    free(reading.met);
-    map_end(&reading.known);
-    map_end(&reading.single);
+    size_t before = requests->mets;
+    requests->types = types;
+    while (has_any(requests) && line_next(&line, &at, end))
+        read_call(requests, &line);
+    return requests->mets > before;
+}
+
+void right_requests_silence(const struct right_requests *requests, const struct types *types, struct notes *notes)
+{
+    notes->libraries = 0;
+    for (size_t i = 0; i < requests->mets && !requests->declared->lacks_pairs; i++)
+        if (requests->met[i].is_right)
+            silence(requests, types, &requests->met[i], notes);
 }

@@ -14,8 +14,7 @@ static const char nowhere[] = "?:0";
 
 void sites_begin(struct sites *sites, const struct declared *declared, const char *directory, struct texts *texts)
 {
-    *sites = (struct sites){declared, directory ? directory : "", texts, NULL};
-    sites->site = take(declared->places * sizeof *sites->site);
+    *sites = (struct sites){declared, directory ? directory : "", texts, NULL, 0};
 }
 
 void sites_end(struct sites *sites)
@@ -122,6 +121,11 @@ const char *site_of(struct sites *sites, uint32_t place)
 {
     if (place >= sites->declared->places)
         return nowhere;
+    if (place >= sites->room) {
+        sites->site = grow(sites->site, sites->declared->place_room, sizeof *sites->site);
+        memset(sites->site + sites->room, 0, (sites->declared->place_room - sites->room) * sizeof *sites->site);
+        sites->room = sites->declared->place_room;
+    }
     if (!sites->site[place])
         sites->site[place] = find_site(sites, place_of(sites->declared, place));
     return sites->site[place];

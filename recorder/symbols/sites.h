@@ -16,6 +16,7 @@ struct sites {
     const char *directory; /* left out at the head of files' names */
     struct texts *texts;   /* what is given stands there */
     const char **site;     /* of each place, NULL where it wasn't asked for yet */
+    size_t room;
 };
 
 void sites_begin(struct sites *sites, const struct declared *declared, const char *directory, struct texts *texts);

@@ -26,14 +26,14 @@ static void add_frame(struct walk *walk, const struct place *place, const struct
     const struct inlined *frame = &code->frame[number];
     /* Of callers the line counts: objects of one class that a line makes are of one type. */
     unsigned column = walk->steps->count == 0 ? column_that_parts(walk->declared, place, number, frame->site) : 0;
-    const char *site = column ? texts_say(walk->declared->texts, "%s:%u", frame->site, column) : frame->site;
+    const char *site = column ? texts_say(walk->declared->derived, "%s:%u", frame->site, column) : frame->site;
     add(walk, (struct step){place, site, base_of(site), frame->function, frame->site, number});
 }
 
 /* A place of which the symbols know no line. */
 static void add_unknown(struct walk *walk, const struct place *place)
 {
-    struct texts *texts = walk->declared->texts;
+    struct texts *texts = walk->declared->derived;
     const char *path = object_of(walk->declared, place->object)->path;
     const char *function = function_of(walk->declared, place);
     const char *identity = texts_say(texts, "%s+%" PRIx64, path ? path : "", place->offset);

@@ -15,6 +15,7 @@ enum { CHUNKS_MOST = 65536, LINES_BETWEEN = 1 << 16 };
 struct writing {
     const struct making *making;
     FILE *trace;
+    struct lock_counts counts;
     bool is_odd;
 };
 
@@ -94,7 +95,7 @@ static void put_init(struct writing *writing, const struct line *line)
 {
     const struct making *making = writing->making;
     struct made_lock made;
-    if (!made_lock_read(&made, line, making->declared, making->types))
+    if (!made_lock_read(&made, line, making->declared, making->types, &writing->counts))
         writing->is_odd = true;
     if (line->count < 4) {
         put_line(writing, line);
@@ -138,7 +139,7 @@ bool trace_write(const struct making *making, FILE *trace)
 {
     struct line line;
     const char *at = making->stream->bytes, *end = making->stream->bytes + making->stream->length;
-    struct writing writing = {making, trace, false};
+    struct writing writing = {.making = making, .trace = trace};
     write_header(making, trace);
     for (unsigned long lines = 1; line_next(&line, &at, end); lines++) {
         write_line(&writing, &line);
@@ -147,5 +148,6 @@ bool trace_write(const struct making *making, FILE *trace)
         if (making->progress)
             tell_resolved(lines, making->declared->lines);
     }
+    lock_counts_end(&writing.counts);
     return fflush(trace) == 0 && !ferror(trace) && !writing.is_odd;
 }

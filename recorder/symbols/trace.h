@@ -16,7 +16,7 @@
 struct making {
     const struct stream *stream;
     const struct declared *declared;
-    struct types *types;
+    const struct types *types;
     const struct peace *peace;
     struct sites *sites;
     size_t frames;  /* so many of a stack are wanted; with 1 none */

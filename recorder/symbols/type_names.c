@@ -77,7 +77,7 @@ static const char *cleaned(const struct giving *giving, const char *text)
 {
     char *name = copy(text);
     clean_name(name);
-    const char *kept = texts_copy(giving->declared->texts, name, strlen(name));
+    const char *kept = texts_copy(giving->declared->derived, name, strlen(name));
     free(name);
     return kept;
 }
@@ -108,7 +108,7 @@ static const char *with_object(const struct giving *giving, uint32_t number)
     int object = (int)(type->lasting.bare - type->lasting.name);
     if (declared_type(giving, number)->label)
         return whole_label(giving, number);
-    return texts_say(giving->declared->texts, "%.*s%s", object, type->lasting.name, giving->wanted[number]);
+    return texts_say(giving->declared->derived, "%.*s%s", object, type->lasting.name, giving->wanted[number]);
 }
 
 /* A variable whose locks are made by several calls. */
@@ -117,7 +117,7 @@ static const char *with_functions(const struct giving *giving, uint32_t number)
     const struct type *type = declared_type(giving, number);
     if (!type->has_variable || type->count == 0)
         return giving->wanted[number];
-    return texts_say(giving->declared->texts, "%s<%s", giving->wanted[number], lasting_functions(giving->declared, type));
+    return texts_say(giving->declared->derived, "%s<%s", giving->wanted[number], lasting_functions(giving->declared, type));
 }
 
 /* FILE:LINE where the type's locks are made or first asked for: a text of one's own; NULL where that isn't known. */
@@ -143,7 +143,7 @@ static const char *with_file(const struct giving *giving, uint32_t number)
         *colon = '\0';
         char *name = say_text("%s (%s)", wanted, base_of(site));
         clean_name(name);
-        wanted = texts_copy(giving->declared->texts, name, strlen(name));
+        wanted = texts_copy(giving->declared->derived, name, strlen(name));
         free(name);
     }
     free(site);
@@ -213,7 +213,7 @@ static const char *single(struct giving *giving, const char *wanted)
 {
     const char *tried = wanted;
     for (unsigned long n = 2; map_has_text(&giving->taken, tried); n++)
-        tried = texts_say(giving->declared->texts, "%s#%lu", wanted, n);
+        tried = texts_say(giving->declared->derived, "%s#%lu", wanted, n);
     *map_add_text(&giving->taken, tried) = 1;
     return tried;
 }
@@ -238,7 +238,7 @@ static void give_told(struct giving *giving, const struct told_names *told, cons
         const char *before = type->first == number ? told_before(told, stream, type->source) : NULL;
         if (!before || map_has_text(&giving->taken, before))
             continue;
-        type->name = giving->wanted[number] = texts_copy(giving->declared->texts, before, strlen(before));
+        type->name = giving->wanted[number] = texts_copy(giving->declared->derived, before, strlen(before));
         *map_add_text(&giving->taken, type->name) = 1;
     }
 }
@@ -291,12 +291,12 @@ const char *variable_lock_in(const struct declared *declared, const struct named
         return type->name;
     int object = (int)(type->lasting.bare - type->lasting.name);
     bool has_object = object > 0 && strncmp(type->name, type->lasting.name, (size_t)object) == 0;
-    return has_object ? texts_say(declared->texts, "%.*s%s", object, type->lasting.name, own) : own;
+    return has_object ? texts_say(declared->derived, "%.*s%s", object, type->lasting.name, own) : own;
 }
 
 const char *numbered_lock_in(const struct declared *declared, const struct named_type *type, uint32_t number)
 {
-    return number <= 1 ? type->name : texts_say(declared->texts, "%s/%" PRIu32, type->name, number);
+    return number <= 1 ? type->name : texts_say(declared->derived, "%s/%" PRIu32, type->name, number);
 }
 
 void trace_name(char cut[TRACE_NAME_MOST + 1], const char *name)

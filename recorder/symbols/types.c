@@ -238,6 +238,7 @@ static void read_type(struct namer *namer, uint32_t number)
 {
     const struct type *type = &namer->declared->type[number];
     struct naming *naming = &namer->naming[number];
+    namer->types->type[number].has_locks = type->class != NULL;
     if (read_array(namer, number))
         return;
     add(&naming->source, type->class ? type->class : "");
@@ -274,9 +275,8 @@ static void find_first(struct namer *namer)
             namer->types->different++;
         }
         type[number].first = (uint32_t)*found;
-        type[*found].merged++;
         const struct text *source = &namer->naming[number].source;
-        type[number].source = texts_copy(namer->declared->texts, bytes_of(source), source->length);
+        type[number].source = texts_copy(namer->declared->derived, bytes_of(source), source->length);
     }
     map_end(&first);
 }
@@ -288,7 +288,7 @@ static void claim_names(struct namer *namer, struct map *claims)
         struct naming *naming = &namer->naming[number];
         if (!is_first(namer, number))
             continue;
-        naming->claim = cut_name(namer->declared->texts, bytes_of(&naming->plain), "");
+        naming->claim = cut_name(namer->declared->derived, bytes_of(&naming->plain), "");
         ++*map_add_text(claims, naming->claim);
     }
 }
@@ -297,7 +297,7 @@ static void claim_names(struct namer *namer, struct map *claims)
 static void part_variables(struct namer *namer)
 {
     struct map claims = {0};
-    struct texts *texts = namer->declared->texts;
+    struct texts *texts = namer->declared->derived;
     claim_names(namer, &claims);
     for (uint32_t number = 1; number < namer->types->count; number++) {
         const struct type *type = &namer->declared->type[number];
@@ -323,7 +323,7 @@ static const char *single(struct namer *namer, const char *name)
     const char *tried = name;
     for (unsigned long n = 2; map_has_text(&namer->taken, tried); n++) {
         snprintf(tail, sizeof tail, "#%lu", n);
-        tried = cut_name(namer->declared->texts, name, tail);
+        tried = cut_name(namer->declared->derived, name, tail);
     }
     *map_add_text(&namer->taken, tried) = 1;
     return tried;
@@ -370,10 +370,10 @@ static void give_names(struct namer *namer)
         if (is_first(namer, number) && !type[number].by_lines)
             name_claimants(namer, number);
         type[number].by_lines = type[type[number].first].by_lines;
-        const char *alone = cut_name(namer->declared->texts, bytes_of(&namer->naming[number].plain), "");
+        const char *alone = cut_name(namer->declared->derived, bytes_of(&namer->naming[number].plain), "");
         type[number].alone = is_first(namer, number) || map_has_text(&namer->taken, alone) ? NULL : alone;
         if (functions->bytes)
-            type[number].functions = texts_copy(namer->declared->texts, functions->bytes, functions->length);
+            type[number].functions = texts_copy(namer->declared->derived, functions->bytes, functions->length);
     }
     map_end(&namer->taken);
     map_end(&namer->variables);
@@ -402,4 +402,15 @@ void types_end(struct types *types)
 {
     free(types->type);
     *types = (struct types){0};
+}
+
+bool types_stay(const struct types *types, const struct types *later)
+{
+    for (uint32_t number = 1; number < types->count; number++) {
+        const struct named_type *type = &types->type[number], *now = &later->type[number];
+        bool stays = type->first == now->first && type->lock_has_name == now->lock_has_name && strcmp(type->name, now->name) == 0;
+        if (type->has_locks && !stays)
+            return false;
+    }
+    return true;
 }

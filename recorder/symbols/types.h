@@ -22,10 +22,9 @@ struct named_type {
     struct lasting lasting;
     const char *alone; /* what it would be called if it weren't one with the first; NULL where that is a type's name */
     const char *functions; /* the functions of its places; NULL where its name is that of a variable */
+    bool has_locks;
     bool is_array;         /* it is all locks of a variable that has many */
     bool is_member;        /* it is all locks of a member that no call has made */
-    size_t merged;         /* of a first one: how many types it is */
-    size_t made;           /* how many locks of it were named by now */
 };
 
 struct types {
@@ -34,8 +33,14 @@ struct types {
     size_t different;
 };
 
-/* All but what they are told by. Of a type whose member is known what is declared of its blocks is left out. */
+/*
+ * All types that are declared by now, but for what they are told by. Of a type whose member is known what is declared of its
+ * blocks is left out. Their texts are derived ones.
+ */
 void types_begin(struct types *types, struct declared *declared);
 void types_end(struct types *types);
+
+/* Whether each of the types that has locks is one with the same ones among the later ones, and has its name there. */
+bool types_stay(const struct types *types, const struct types *later);
 
 #endif

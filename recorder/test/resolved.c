@@ -1,7 +1,9 @@
 /*
  * resolved FRAMES FILE..: prints the traces of recorder's files, of which one resolver makes them; or, where there are
- * frames, the lines for the verifier, with their notes. With `types` for FRAMES it prints the types alone: each one's lasting name, its build-id where it
- * doesn't last, and after tabs the name by which it is told, and that by lines. The status is 4 where a file is none, or has what no recorder writes.
+ * frames, the lines for the verifier, with their notes. With `types` for FRAMES it prints the types alone: each one's lasting
+ * name, its build-id where it doesn't last, and after tabs the name by which it is told, and that by lines. The status is 4
+ * where a file is none, or has what no recorder writes. With PIECES in the environment the files are read in pieces of so many
+ * lines, as of a program that goes on; on standard error it is told how often one was read anew.
  */
 #include <stdio.h>
 #include <stdlib.h>
@@ -20,6 +22,13 @@ static void print_notes(const struct notes *notes)
     }
     for (size_t i = 0; i < notes->events; i++)
         printf("event %d name %s\n", (int)notes->event[i].kind, notes->event[i].name ? notes->event[i].name : "-");
+    for (size_t i = 0; i < notes->locks; i++)
+        printf("lock %zu is %s of %s\n", i + 1, notes->lock[i].name, notes->lock[i].type);
+    for (size_t i = 0; i < notes->single.pairs; i++) {
+        const struct single_pair *pair = &notes->single.pair[i];
+        printf("pair %u %u at %s\n", pair->held.type, pair->asked.type,
+            pair->deeds > 0 ? single_site(&notes->single, pair->deed[0].place) : "-");
+    }
 }
 
 static void print_types(const struct notes *notes)
@@ -31,29 +40,63 @@ static void print_types(const struct notes *notes)
     }
 }
 
-static bool print_names(struct resolver *resolver, const char *path)
+/* The end of a piece of so many lines, or of all where that is 0. */
+static size_t piece_end(const struct stream *stream, size_t from, unsigned long lines)
 {
-    struct stream stream;
-    struct notes notes;
-    FILE *nowhere = fopen("/dev/null", "w");
-    if (!nowhere || !stream_open(&stream, path, false))
-        return false;
-    bool good = resolve(resolver, &stream, nowhere, &notes);
-    print_types(&notes);
-    notes_end(&notes);
-    stream_close(&stream);
-    fclose(nowhere);
-    return good;
+    for (size_t at = from; lines > 0 && at < stream->length; at++)
+        if (stream->bytes[at] == '\n' && --lines == 0)
+            return at + 1;
+    return stream->length;
 }
 
-static bool print_lines(struct resolver *resolver, const char *path)
+/* The lines, a text of one's own, and the notes. False where it isn't a recorder's. */
+static bool resolve(struct resolver *resolver, const struct stream *stream, char **lines, struct notes *notes)
+{
+    size_t length, end = 0;
+    unsigned long pieces = getenv("PIECES") ? strtoul(getenv("PIECES"), NULL, 10) : 0, anew = 0;
+    struct resolving *resolving = resolving_new(resolver, stream);
+    enum resolved resolved = RESOLVED;
+    FILE *to = open_memstream(lines, &length);
+    do {
+        end = piece_end(stream, end, pieces);
+        size_t read = resolving_read(resolving);
+        struct stream piece = *stream;
+        piece.before = read;
+        piece.bytes += read;
+        piece.length = end - read;
+        resolved = resolving_goes_on(resolving, &piece, to);
+        if (resolved == RESOLVED_ANEW) {
+            resolving_end(resolving);
+            resolving = resolving_new(resolver, stream);
+            rewind(to);
+            piece = *stream;
+            piece.length = end;
+            resolved = resolving_goes_on(resolving, &piece, to);
+            anew++;
+        }
+    } while (end < stream->length);
+    fclose(to);
+    *notes = resolving_leaves_notes(resolving);
+    if (pieces)
+        fprintf(stderr, "%lu anew\n", anew);
+    return resolved == RESOLVED;
+}
+
+static bool print_resolved(struct resolver *resolver, const char *path, bool types)
 {
     struct stream stream;
     struct notes notes;
+    char *lines;
     if (!stream_open(&stream, path, false))
         return false;
-    bool good = resolve(resolver, &stream, stdout, &notes);
-    print_notes(&notes);
+    bool good = resolve(resolver, &stream, &lines, &notes);
+    if (types) {
+        print_types(&notes);
+    } else {
+        fputs(lines, stdout);
+        print_notes(&notes);
+    }
+    free(lines);
     notes_end(&notes);
     stream_close(&stream);
     return good;
@@ -72,8 +115,8 @@ static bool print_trace(struct resolver *resolver, const char *path)
 static bool print(struct resolver *resolver, const char *frames, const char *path)
 {
     if (strcmp(frames, "types") == 0)
-        return print_names(resolver, path);
-    return atoi(frames) > 1 ? print_lines(resolver, path) : print_trace(resolver, path);
+        return print_resolved(resolver, path, true);
+    return atoi(frames) > 1 ? print_resolved(resolver, path, false) : print_trace(resolver, path);
 }
 
 int main(int count, char **words)
