@@ -25,7 +25,7 @@ static const char *words_of(const struct value *object, const char *name)
 /* The type of that name as it is told. */
 static const char *type_of(const struct reading *reading, const struct value *object, const char *name)
 {
-    return notes_whole(reading->reports->notes, words_of(object, name));
+    return notes_type(reading->reports->notes, words_of(object, name));
 }
 
 static size_t spot_of(const struct value *object)

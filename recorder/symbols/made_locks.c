@@ -25,42 +25,50 @@ static struct lock_count *count_of(struct lock_counts *counts, uint32_t number)
  * The lock's number in its type. Further types may come to be the member's, and types that come from the same source are one:
  * there it is counted on.
  */
-static bool number_of(const struct line *line, const struct types *types, uint32_t type, struct lock_counts *counts,
-    uint32_t *number)
+static void count(struct made_lock *made, const struct types *types, uint32_t type, struct lock_counts *counts)
 {
-    bool is_read = field_number(line, FIELD_NUMBER, UINT32_MAX - 1, number);
-    if (type == 0)
-        return is_read;
-    uint32_t first = types->type[type].first;
+    made->type = types->type[type].first;
     bool is_new = !count_of(counts, type)->is_met;
     count_of(counts, type)->is_met = true;
-    struct lock_count *count = count_of(counts, first);
-    count->several += is_new;
-    if (count->several > 1 || types->type[first].is_member)
-        *number = count->highest + 1;
-    if (is_read && *number > count->highest)
-        count->highest = *number;
-    return is_read;
+    struct lock_count *known = count_of(counts, made->type);
+    made->is_types_first = is_new && known->several == 0;
+    known->several += is_new;
+    if (known->several > 1 || types->type[made->type].is_member)
+        made->number = known->highest + 1;
+    if (made->number > known->highest)
+        known->highest = made->number;
 }
 
 bool made_lock_read(struct made_lock *made, const struct line *line, const struct declared *declared,
     const struct types *types, struct lock_counts *counts)
 {
-    static const struct named_type nameless = {.name = ""};
-    uint32_t type = 0, own = 0;
-    *made = (struct made_lock){.type = &nameless};
-    if (!field_number(line, FIELD_TYPE, TYPE_MOST - 1, &type) || type >= types->count)
-        type = 0;
-    bool is_read = number_of(line, types, type, counts, &own);
-    if (type != 0) {
-        made->number = types->type[type].first;
-        made->type = &types->type[made->number];
-    }
+    uint32_t type;
+    *made = (struct made_lock){0};
+    bool is_read = field_number(line, FIELD_NUMBER, UINT32_MAX - 1, &made->number);
+    if (field_number(line, FIELD_TYPE, TYPE_MOST - 1, &type) && type > 0 && type < types->count)
+        count(made, types, type, counts);
     if (line->count > FIELD_VARIABLE && !read_variable(declared, line, FIELD_VARIABLE, &made->variable))
         made->variable.object = 0;
-    made->name = made->variable.object ? variable_lock_in(declared, made->type, &made->variable)
-                                       : numbered_lock_in(declared, made->type, own);
     return is_read;
+}
+
+/* One without a name where it isn't known. */
+static const struct named_type *type_of(const struct made_lock *made, const struct types *types)
+{
+    static const struct named_type nameless = {.name = ""};
+    return made->type ? &types->type[made->type] : &nameless;
+}
+
+const char *made_type_name(const struct made_lock *made, const struct types *types)
+{
+    return type_of(made, types)->name;
+}
+
+const char *made_lock_name(const struct made_lock *made, const struct declared *declared, const struct types *types)
+{
+    const struct named_type *type = type_of(made, types);
+    return made->variable.object ? variable_lock_in(declared, type, &made->variable)
+                                 : numbered_lock_in(declared, type, made->number);
 }
 
 void lock_counts_end(struct lock_counts *counts)

@@ -8,10 +8,10 @@
 #include "types.h"
 
 struct made_lock {
-    uint32_t number; /* of its type in the stream, the first of those that are one; 0 where it isn't known */
-    const struct named_type *type; /* that type; one without a name where it isn't known */
-    const char *name;              /* the lock's own */
-    struct variable variable;      /* that it is in; its object is 0 where it is in none */
+    uint32_t type;            /* its number in the stream, the first of those that are one; 0 where it isn't known */
+    bool is_types_first;      /* that was read */
+    uint32_t number;          /* of the lock among those of its type, from 1 on */
+    struct variable variable; /* that it is in; its object is 0 where it is in none */
 };
 
 /* How many locks of each type were read, by the numbers of the types in the stream. A new struct is all zeroes. */
@@ -30,6 +30,10 @@ struct lock_counts {
  */
 bool made_lock_read(struct made_lock *made, const struct line *line, const struct declared *declared,
     const struct types *types, struct lock_counts *counts);
+
+/* What the lock's type is called, and the lock: by what is known of types by now. */
+const char *made_type_name(const struct made_lock *made, const struct types *types);
+const char *made_lock_name(const struct made_lock *made, const struct declared *declared, const struct types *types);
 
 void lock_counts_end(struct lock_counts *counts);
 

@@ -25,8 +25,8 @@ struct named_lines {
     struct map spots;           /* by place, stack and thread, from 1 on */
     struct map framed;          /* by place and stack, from 1 on */
     struct lock_counts counts;
-    bool *is_named; /* types that have their names by now, by the stream's numbers */
-    size_t named_room;
+    struct made_lock *made; /* each lock */
+    size_t mades, made_room;
     size_t tellings, steps; /* of single locks: so many have their sites */
     uint32_t sitter[SEAT_MOST]; /* the thread that has each seat, as the kernel counts; 0 where it isn't known */
     size_t owner[SEAT_MOST];    /* the event that tells the owner of what the seat waits for, from 1 on; 0 for none */
@@ -226,57 +226,51 @@ static void put_give_up(struct named_lines *writing, const struct line *line)
         pairs_give_up(&writing->pairs, seat);
 }
 
+/* The lock of that number has the names that it and its type have by now. */
+static void name_lock(struct named_lines *writing, size_t number)
+{
+    const struct making *making = writing->making;
+    struct texts *texts = writing->notes->texts;
+    struct lock_name *lock = &writing->notes->lock[number];
+    const struct made_lock *made = &writing->made[number];
+    const char *name = made_lock_name(made, making->declared, making->types);
+    const char *type = made_type_name(made, making->types);
+    bool is_type = made->variable.object && strcmp(name, type) == 0;
+    lock->name = texts_copy(texts, name, strlen(name));
+    lock->type = texts_copy(texts, type, strlen(type));
+    lock->variable = code_place_in(making->sites, is_type ? made->variable.object : 0, made->variable.offset);
+}
+
 static void keep_lock(struct named_lines *writing, const struct made_lock *made, const struct line *line)
 {
     struct notes *notes = writing->notes;
     struct field class = line->count > 2 ? line->field[2] : (struct field){"", 0};
-    const char *name = made->name, *type = made->type->name;
-    bool is_type = made->variable.object && strcmp(name, type) == 0;
-    ADD(notes->lock, notes->locks, notes->lock_room) = (struct lock_name){
-        .name = texts_copy(notes->texts, name, strlen(name)),
-        .type = texts_copy(notes->texts, type, strlen(type)),
-        .class = texts_copy(notes->texts, class.at, class.length),
-        .variable = code_place_in(writing->making->sites, is_type ? made->variable.object : 0, made->variable.offset),
-    };
+    ADD(writing->made, writing->mades, writing->made_room) = *made;
+    ADD(notes->lock, notes->locks, notes->lock_room) =
+        (struct lock_name){.class = texts_copy(notes->texts, class.at, class.length)};
+    name_lock(writing, notes->locks - 1);
 }
 
-/* Whether the type had its name before; it has it from here on. */
-static bool is_named(struct named_lines *writing, uint32_t type)
+void named_lines_rename(struct named_lines *writing)
 {
-    if (type >= writing->named_room) {
-        size_t room = 2 * ((size_t)type + 1);
-        writing->is_named = grow(writing->is_named, room, sizeof *writing->is_named);
-        memset(writing->is_named + writing->named_room, 0, room - writing->named_room);
-        writing->named_room = room;
-    }
-    bool was_named = writing->is_named[type];
-    writing->is_named[type] = true;
-    return was_named;
-}
-
-/* The name of the stream's type, before its first lock; what a cut one stands for is noted. */
-static void put_name(struct named_lines *writing, const struct made_lock *made)
-{
-    char cut[TRACE_NAME_MOST + 1];
-    const char *name = made->type->name;
-    if (made->number == 0 || is_named(writing, made->number))
-        return;
-    trace_name(cut, name);
-    fprintf(writing->to, "name %" PRIu32 " \"%s\"\n", made->number, cut);
-    if (strlen(name) > TRACE_NAME_MOST)
-        notes_tell_cut(writing->notes, cut, name);
+    struct notes *notes = writing->notes;
+    for (size_t i = 0; i < notes->locks; i++)
+        name_lock(writing, i);
+    for (size_t i = 0; i < notes->events; i++)
+        if (notes->event[i].lock >= 1 && notes->event[i].lock <= notes->locks)
+            notes->event[i].name = notes->lock[notes->event[i].lock - 1].name;
 }
 
 /* Types that are one have the number of the first. The variable, which may be long, is left out. */
 static void put_made(struct named_lines *writing, const struct made_lock *made, const struct line *line)
 {
     enum { FIELD_TYPE = 4, FIELDS = 6 };
-    if (made->number == 0 || line->count < FIELDS) {
+    if (made->type == 0 || line->count < FIELDS) {
         put_line(writing, line);
         return;
     }
     put_bytes(writing->to, line->at, (size_t)(line->field[FIELD_TYPE].at - line->at));
-    fprintf(writing->to, "%" PRIu32 " %.*s\n", made->number, (int)line->field[FIELD_TYPE + 1].length,
+    fprintf(writing->to, "%" PRIu32 " %.*s\n", made->type, (int)line->field[FIELD_TYPE + 1].length,
         line->field[FIELD_TYPE + 1].at);
 }
 
@@ -289,7 +283,9 @@ static void put_init(struct named_lines *writing, const struct line *line)
     keep_lock(writing, &made, line);
     if (line->count > FIELD_FLAGS && memchr(line->field[FIELD_FLAGS].at, *INIT_SHARED, line->field[FIELD_FLAGS].length))
         writing->notes->has_shared = true;
-    put_name(writing, &made);
+    /* What the type is called may change, and the verifier knows it by its number alone. */
+    if (made.is_types_first)
+        fprintf(writing->to, "name %" PRIu32 " \"%" PRIu32 "\"\n", made.type, made.type);
     put_made(writing, &made, line);
 }
 
@@ -502,7 +498,7 @@ void named_lines_end(struct named_lines *writing)
     lock_counts_end(&writing->counts);
     map_end(&writing->spots);
     map_end(&writing->framed);
-    free(writing->is_named);
+    free(writing->made);
     free(writing);
 }
 

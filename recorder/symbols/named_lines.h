@@ -1,6 +1,6 @@
 /*
- * The lines of a stream that `witness findings` reads, with names for types and numbers of spots for places; and what beside
- * them is noted.
+ * The lines of a stream that `witness findings` reads, with numbers of spots for places, and one number for types that are one,
+ * which is their name there; and what beside them is noted.
  */
 #ifndef RECORD_NAMED_LINES_H
 #define RECORD_NAMED_LINES_H
@@ -16,6 +16,8 @@ void named_lines_end(struct named_lines *lines);
 
 /* The types that are noted of single locks are those of the making. */
 void named_lines_note_types(struct named_lines *lines);
+/* Locks and types have other names by now, and are the same ones. */
+void named_lines_rename(struct named_lines *lines);
 
 /*
  * Writes what these lines of the stream are for the verifier, which come after those before. False where it can't be written,

@@ -16,8 +16,6 @@ void notes_end(struct notes *notes)
     free(notes->blind);
     free(notes->library);
     free(notes->lock);
-    map_end(&notes->cut);
-    free(notes->whole);
     single_end(&notes->single);
     peace_end(&notes->peace);
     lock_pairs_end(&notes->pairs);
@@ -26,19 +24,11 @@ void notes_end(struct notes *notes)
     *notes = (struct notes){0};
 }
 
-void notes_tell_cut(struct notes *notes, const char *cut, const char *name)
+const char *notes_type(const struct notes *notes, const char *number)
 {
-    size_t *number = map_add_text(&notes->cut, cut);
-    if (*number != 0)
-        return;
-    ADD(notes->whole, notes->wholes, notes->whole_room) = texts_copy(notes->texts, name, strlen(name));
-    *number = notes->wholes;
-}
-
-const char *notes_whole(const struct notes *notes, const char *name)
-{
-    size_t number = map_find_text(&notes->cut, name);
-    return number ? notes->whole[number - 1] : name;
+    size_t type = strtoul(number, NULL, 10);
+    const char *name = type < notes->single.types ? notes->single.type[type] : NULL;
+    return name ? name : number;
 }
 
 const struct lock_name *notes_lock(const struct notes *notes, unsigned number)

@@ -107,9 +107,6 @@ struct notes {
     size_t libraries, library_room;
     struct lock_name *lock; /* lock[N - 1] is that of number N */
     size_t locks, lock_room;
-    struct map cut; /* names that are too long for the verifier, as it has them: numbers in the list, from 1 on */
-    const char **whole;
-    size_t wholes, whole_room;
     struct single single;    /* the pairs of single locks */
     struct peace peace;      /* what of its types isn't told */
     struct lock_pairs pairs; /* of single locks, where orders are learnt or reports are to be confirmed */
@@ -121,10 +118,8 @@ struct notes {
 
 void notes_end(struct notes *notes);
 
-/* The verifier has the name as that cut one. */
-void notes_tell_cut(struct notes *notes, const char *cut, const char *name);
-/* The whole name of one that the verifier tells. */
-const char *notes_whole(const struct notes *notes, const char *name);
+/* What the type is called that the verifier tells by its number. */
+const char *notes_type(const struct notes *notes, const char *number);
 /* The lock of that number in the trace; one without names where there is none. */
 const struct lock_name *notes_lock(const struct notes *notes, unsigned number);
 

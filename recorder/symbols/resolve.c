@@ -128,7 +128,7 @@ struct notes resolving_leaves_notes(struct resolving *resolving)
     return notes;
 }
 
-/* Names the types that are there by now. False where an earlier one has another name than it had. */
+/* Names the types that are there by now. False where earlier ones have come to be one. */
 static bool name_types(struct resolving *resolving)
 {
     struct declared *declared = &resolving->declared;
@@ -138,15 +138,17 @@ static bool name_types(struct resolving *resolving)
     columns_of_labels(declared);
     types_begin(&resolving->types, declared);
     type_names_give(&resolving->types, declared, resolving->resolver->told, resolving->path);
-    bool stays = types_stay(&before, &resolving->types);
+    enum types_stay stay = types_stay(&before, &resolving->types);
     named_lines_note_types(resolving->lines);
+    if (stay == TYPES_RENAMED)
+        named_lines_rename(resolving->lines);
     types_end(&before);
     texts_end(derived);
     declared->has_news = false;
-    return stays;
+    return stay != TYPES_MERGED;
 }
 
-/* Reads what the lines declare. False where what was written before has other names by now. */
+/* Reads what the lines declare. False where types that were written before have come to be one. */
 static bool declare(struct resolving *resolving, const char *at, const char *end)
 {
     struct declared *declared = &resolving->declared;

@@ -102,7 +102,8 @@ static void put_init(struct writing *writing, const struct line *line)
         return;
     }
     struct field flags = line->field[3];
-    const char *name = made.name, *type = made.type->name;
+    const char *name = made_lock_name(&made, making->declared, making->types);
+    const char *type = made_type_name(&made, making->types);
     bool in_peace = peace_of(making->peace, type, type) != PEACE_NONE;
     bool is_recursive = memchr(flags.at, *INIT_RECURSIVE, flags.length);
     put_bytes(writing->trace, line->at, (size_t)(flags.at - line->at));

@@ -404,13 +404,16 @@ void types_end(struct types *types)
     *types = (struct types){0};
 }
 
-bool types_stay(const struct types *types, const struct types *later)
+enum types_stay types_stay(const struct types *types, const struct types *later)
 {
+    enum types_stay stay = TYPES_STAY;
     for (uint32_t number = 1; number < types->count; number++) {
         const struct named_type *type = &types->type[number], *now = &later->type[number];
-        bool stays = type->first == now->first && type->lock_has_name == now->lock_has_name && strcmp(type->name, now->name) == 0;
-        if (type->has_locks && !stays)
-            return false;
+        if (type->has_locks && type->first != now->first)
+            return TYPES_MERGED;
+        bool is_renamed = type->lock_has_name != now->lock_has_name || strcmp(type->name, now->name) != 0;
+        if (type->has_locks && is_renamed)
+            stay = TYPES_RENAMED;
     }
-    return true;
+    return stay;
 }

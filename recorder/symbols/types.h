@@ -40,7 +40,8 @@ struct types {
 void types_begin(struct types *types, struct declared *declared);
 void types_end(struct types *types);
 
-/* Whether each of the types that has locks is one with the same ones among the later ones, and has its name there. */
-bool types_stay(const struct types *types, const struct types *later);
+/* Whether types that have locks are one with others among the later ones than before, or have other names there. */
+enum types_stay { TYPES_STAY, TYPES_RENAMED, TYPES_MERGED };
+enum types_stay types_stay(const struct types *types, const struct types *later);
 
 #endif
