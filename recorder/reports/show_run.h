@@ -85,10 +85,10 @@ struct process {
     struct reports reports;
     struct reports silenced; /* what isn't told: the user doesn't want it, or it is right in a library */
     struct state state;
-    int status;        /* of the verifier, as a shell says it */
-    bool resolved;     /* else its lines couldn't be made */
-    bool is_followed;  /* it goes on, and only its reports are wanted */
-    bool is_last_look; /* and it isn't looked at again meanwhile */
+    int status;          /* of the verifier, as a shell says it */
+    bool resolved;       /* else its lines couldn't be made */
+    bool is_followed;    /* it goes on, and only its reports are wanted */
+    bool is_last_look;   /* and it isn't looked at again meanwhile */
     bool has_lent_notes; /* the notes are those of what goes on */
 };
 

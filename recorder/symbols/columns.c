@@ -71,7 +71,8 @@ bool columns_read(const struct declared *declared, uint32_t number_of_place)
     for (size_t frame = telling_frame(code, 0); frame < code->count; frame = telling_frame(code, frame + 1)) {
         size_t *number = map_add_text(&columns->by_site, code->frame[frame].site);
         if (*number == 0) {
-            ADD(columns->line, columns->lines, columns->room) = (struct known_line){.place = number_of_place, .frame = frame};
+            ADD(columns->line, columns->lines, columns->room) =
+                (struct known_line){.place = number_of_place, .frame = frame};
             *number = columns->lines;
         } else {
             struct known_line *line = &columns->line[*number - 1];

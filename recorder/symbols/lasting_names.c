@@ -167,16 +167,14 @@ static bool is_of_variable(const char *expression, const char *variable)
     return strncmp(expression, last, length) == 0 && (expression[length] == '\0' || strchr(".[", expression[length]));
 }
 
-/* As debug information has it. False where there is none, or the variable is many locks of one type in this run. */
-static bool say_part(struct making_name *name, bool is_array)
+/* As debug information has it. False where there is none. */
+static bool say_part(struct making_name *name)
 {
-    enum { FEW_ELEMENTS = 16 };
-    char *part = variable_part(name->declared, &name->type->variable, FEW_ELEMENTS, is_array || name->steps.count > 0);
-    bool is_said = part && (!is_array || strchr(part, '['));
-    if (is_said)
+    char *part = variable_part(name->declared, &name->type->variable, FEW_ELEMENTS, name->steps.count > 0);
+    if (part)
         say(name, part);
     free(part);
-    return is_said;
+    return part != NULL;
 }
 
 /* As the symbol has it: of a lock that a call has made the call's own word for it is part of the name. */
@@ -207,7 +205,7 @@ static void say_variable(struct making_name *name, bool is_array)
 {
     const struct variable *variable = &name->type->variable;
     say_object(name, variable->object);
-    if (!say_part(name, is_array))
+    if (!say_part(name))
         say_symbol(name, is_array);
     if (variable->file) {
         say(name, " (");

@@ -21,18 +21,18 @@ struct named_lines {
     const struct making *making;
     FILE *to;
     struct notes *notes;
-    bool has_callers;           /* places are told with their threads and callers */
-    struct map spots;           /* by place, stack and thread, from 1 on */
-    struct map framed;          /* by place and stack, from 1 on */
+    bool has_callers;  /* places are told with their threads and callers */
+    struct map spots;  /* by place, stack and thread, from 1 on */
+    struct map framed; /* by place and stack, from 1 on */
     struct lock_counts counts;
     struct made_lock *made; /* each lock */
     size_t mades, made_room;
-    size_t tellings, steps; /* of single locks: so many have their sites */
+    size_t tellings, steps;     /* of single locks: so many have their sites */
     uint32_t sitter[SEAT_MOST]; /* the thread that has each seat, as the kernel counts; 0 where it isn't known */
     size_t owner[SEAT_MOST];    /* the event that tells the owner of what the seat waits for, from 1 on; 0 for none */
     struct pairs_reading pairs; /* what seats hold, where pairs of locks are noted */
     uint32_t now;               /* in milliseconds */
-    unsigned long lines; /* that were read */
+    unsigned long lines;        /* that were read */
     bool is_odd;
 };
 

@@ -121,7 +121,8 @@ static bool is_in(const struct right_requests *reading, const struct place *plac
 }
 
 /* Whether a request at that place and with that stack comes by way of one of the order's functions, or may. */
-static bool is_by_way(const struct right_requests *reading, const struct right_order *order, uint32_t place, uint32_t stack)
+static bool is_by_way(const struct right_requests *reading, const struct right_order *order, uint32_t place,
+    uint32_t stack)
 {
     const struct declared *declared = reading->declared;
     bool has_name = false, is_there = is_in(reading, place_of(declared, place), order, &has_name);
@@ -198,7 +199,8 @@ static void read_pair(struct right_requests *reading, const struct line *line)
 
 static uint32_t type_of(const struct right_requests *reading, uint32_t lock)
 {
-    return lock > reading->passed && lock - reading->passed <= reading->locks ? reading->type[lock - reading->passed - 1] : 0;
+    return lock > reading->passed && lock - reading->passed <= reading->locks ? reading->type[lock - reading->passed - 1]
+                                                                              : 0;
 }
 
 /* `check SEAT LOCK MODE n PLACE STACK`. */

@@ -117,7 +117,8 @@ static const char *with_functions(const struct giving *giving, uint32_t number)
     const struct type *type = declared_type(giving, number);
     if (!type->has_variable || type->count == 0)
         return giving->wanted[number];
-    return texts_say(giving->declared->derived, "%s<%s", giving->wanted[number], lasting_functions(giving->declared, type));
+    return texts_say(giving->declared->derived, "%s<%s", giving->wanted[number],
+        lasting_functions(giving->declared, type));
 }
 
 /* FILE:LINE where the type's locks are made or first asked for: a text of one's own; NULL where that isn't known. */

@@ -1,6 +1,7 @@
 #include "types.h"
 
 #include "label.h"
+#include "lasting_variables.h"
 #include "lock_names.h"
 #include "map.h"
 #include "allocation.h"
@@ -14,11 +15,8 @@
 #include <stdlib.h>
 #include <string.h>
 
-/*
- * What a trace has room for, and what is kept of a name that its object follows; and how many types a variable may
- * be: of more it is an array, and one type.
- */
-enum { NAME_MOST = 63, NAME_KEPT = 40, FEW_TYPES = 16 };
+/* What a trace has room for, and what is kept of a name that its object follows. */
+enum { NAME_MOST = 63, NAME_KEPT = 40 };
 
 /* A text that grows. */
 struct text {
@@ -111,22 +109,40 @@ static void count_variables(struct namer *namer)
     }
 }
 
+/*
+ * What parts it from other arrays in the variable, as a text of one's own; NULL where it is no part of an array. Without debug
+ * information the variable is one array where it came to be so many types.
+ */
+static char *array_of(const struct namer *namer, const struct type *type, const char *variable)
+{
+    char *part = variable_part(namer->declared, &type->variable, FEW_ELEMENTS, false);
+    if (!part)
+        return map_find_text(&namer->variables, variable) > FEW_ELEMENTS ? copy("") : NULL;
+    if (strstr(part, "[]"))
+        return part;
+    free(part);
+    return NULL;
+}
+
 /* A type that is an array, or a part of one. */
 static bool read_array(struct namer *namer, uint32_t number)
 {
     const struct type *type = &namer->declared->type[number];
-    char *variable = variable_of(namer->declared, type);
-    bool is_array = variable && map_find_text(&namer->variables, variable) > FEW_TYPES;
-    namer->types->type[number].is_array = is_array;
-    if (is_array) {
+    char *variable = variable_of(namer->declared, type), *array = variable ? array_of(namer, type, variable) : NULL;
+    struct naming *naming = &namer->naming[number];
+    namer->types->type[number].is_array = array != NULL;
+    if (array) {
         struct variable whole = type->variable;
         whole.within = 0;
-        add(&namer->naming[number].source, variable);
-        add(&namer->naming[number].plain, variable_name(namer->declared, &whole));
-        add(&namer->naming[number].plain, "[]");
+        size_t brackets = strcspn(array, "[");
+        add(&naming->source, variable);
+        add(&naming->source, array);
+        add(&naming->plain, variable_name(namer->declared, &whole));
+        add(&naming->plain, array[brackets] ? array + brackets : "[]");
     }
     free(variable);
-    return is_array;
+    free(array);
+    return namer->types->type[number].is_array;
 }
 
 static void read_variable_type(struct namer *namer, uint32_t number)

@@ -12,7 +12,8 @@ enum { DEEP = 32 };
 
 struct part {
     struct entry type;
-    uint64_t offset; /* in it */
+    uint64_t offset;   /* in it */
+    uint64_t elements; /* so many of that type are in the arrays that it is in */
     char *name;
 };
 
@@ -44,6 +45,8 @@ static bool select_element(struct part *part, const struct entry *array, uint64_
     append(part, index);
     free(index);
     part->offset %= size;
+    if (__builtin_mul_overflow(part->elements, elements, &part->elements))
+        part->elements = UINT64_MAX;
     return true;
 }
 
@@ -93,8 +96,14 @@ struct part_of_variable part_of_variable(struct debug_info *info, uint64_t addre
     if (!variable || !variable->name || !entry_type(&variable->entry, &part.type))
         return found;
     part.offset = address - variable->address;
+    part.elements = 1;
     part.name = copy("");
-    if (select_part(&part, few, is_any_element)) {
+    bool is_selected = select_part(&part, few, is_any_element);
+    if (is_selected && part.elements > few && !is_any_element) {
+        free(part.name);
+        return part_of_variable(info, address, few, true);
+    }
+    if (is_selected) {
         found.variable = copy(variable->name);
         found.path = part.name;
     } else {

@@ -11,7 +11,7 @@
 
 struct part_of_variable {
     char *variable; /* its name, with the function that it is of; NULL where nothing is known */
-    char *path;     /* from there to the part: `.lock`, `[3]`; of an array of more than `few` elements `[]` */
+    char *path; /* from there to the part: `.lock`, `[3]`; of more than `few` elements, of arrays in arrays too, `[]` */
 };
 
 /* Both are texts of one's own. Where any element is meant `[]` stands for each. */

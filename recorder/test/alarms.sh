@@ -180,23 +180,32 @@ if wanted misuse && has_libdw misuse; then
     tell misuse "--errors no" $?
 fi
 
-# Of more than 16 locks of a variable, each of them has the variable's type. Of as many each has its own.
-if wanted stripes; then
-    compile stripes
-    for count in 16 8000; do
-        "$record" -o kept -- ./stripes $count 2>recorded.err
-        diff "$here/stripes.want" recorded.err
-        tell stripes "a table of $count mutexes" $?
-        types=$(sed -n 's/^init [0-9]* mtx - "table[^"]*"\( "\(table[^"]*\)"\)\{0,1\}$/\2/p' kept | sort | uniq -c | sed 's/^ *//')
-        if [ $count -eq 16 ]; then [ "$types" = "16 " ]; else [ "${types#* }" = "table[]" ]; fi
-        tell stripes "its types" $?
+# An array of more than 16 elements is one type. Without debug information each of 16 locks of a variable has its own type, and
+# of more they have one.
+if wanted stripes && has_libdw stripes; then
+    for level in -g -g1; do
+        compile stripes $level
+        for count in 16 8000; do
+            "$record" -o kept -- ./stripes $count 2>recorded.err
+            diff "$here/stripes.want" recorded.err
+            tell stripes "a table of $count mutexes ($level)" $?
+            types=$(sed -n 's/^init [0-9]* mtx - "table[^"]*"\( "\(table[^"]*\)"\)\{0,1\}$/\2/p' kept | sort | uniq -c | sed 's/^ *//')
+            if [ "$count$level" = 16-g1 ]; then [ "$types" = "16 " ]; else [ "${types#* }" = "table[]" ]; fi
+            tell stripes "its types ($count of them, $level)" $?
+        done
     done
 fi
 
-# What is told while the program runs may have other types in the end.
+# What was told while the program ran is so in the end, too.
 if wanted later && has_libdw later; then
     compile later
     "$record" -- ./later 2>recorded.err >recorded.out
-    grep -q '^ "front" -> "back" @ later.c:17$' recorded.err && grep -qF '"table[1]"' recorded.err
+    grep -q '^ "front" -> "back" @ later.c:17$' recorded.err && [ "$(grep -c '^acquiring\|^lock order' recorded.err)" -eq 2 ] &&
+        grep -qx 'acquiring duplicate lock of same type: "table\[\]"' recorded.err && grep -q '^record: 2 reports' recorded.err
+    tell later "an array is one type from its first element on" $?
+    # But where debug information doesn't tell the array.
+    compile later -g1
+    "$record" -- ./later 2>recorded.err >recorded.out
+    grep -q '^ "front" -> "back" @ later.c:17$' recorded.err && grep -qF '"table+0x28"' recorded.err
     tell later "a report that follows those whose types have changed" $?
 fi

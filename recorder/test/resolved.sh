@@ -193,3 +193,32 @@ END
         tell lambdas "a thread's lambda ($level)" $?
     done
 fi
+
+# An array is one type from its first element on, where debug information tells it, and each other member is one by itself.
+if wanted arrays && has_libdw arrays; then
+    compile arrays
+    compile_resolved && record_stream 1 ./arrays
+    { printf '%s\n' 'few[3]' 'few[7]' 'grid[]' outer 'shelves[].lock' 'shelves[].other' 'table[]' &&
+        printf 'wide.%s\n' a b c d e f g h i j k l m n o p q; } | LC_ALL=C sort >wanted.types
+    ./resolved types stream | cut -f 2 | LC_ALL=C sort | diff wanted.types -
+    tell arrays "types of arrays, of which few elements are used" $?
+    ./resolved 8 stream >lines && grep -q '^lock [0-9]* is table\[7\] of table\[\]$' lines && grep -q '^lock [0-9]* is grid\[14\] of grid\[\]$' lines
+    tell arrays "a lock is told with its index" $?
+fi
+
+# A file that is read as it grows is read as one that is whole. Leaks aren't looked for (lasting.sh).
+if wanted pieces; then
+    compile_resolved
+    for program in reversal crowd oneline bank accounts; do
+        compile $program && record_stream 8 ./$program
+        ASAN_OPTIONS=$ASAN_OPTIONS:detect_leaks=0 ./resolved 8 stream >whole.lines
+        for pieces in 1 7 50; do
+            ASAN_OPTIONS=$ASAN_OPTIONS:detect_leaks=0 PIECES=$pieces ./resolved 8 stream 2>anew | cmp - whole.lines && grep -qx '0 anew' anew
+            tell pieces "$program, of which $pieces lines come at once" $?
+        done
+    done
+    # Without debug information elements come to be an array.
+    "${CC:-cc}" -pthread -o arrays "$here/arrays.c" && record_stream 8 ./arrays && ./resolved 8 stream >whole.lines
+    PIECES=7 ./resolved 8 stream 2>anew | cmp - whole.lines && grep -qx '[1-9][0-9]* anew' anew
+    tell pieces "types that come to be one" $?
+fi
