@@ -25,6 +25,15 @@ static inline size_t label_column(const char *label)
     return column > 0 && label_number(label, column) > 0 ? column : 0;
 }
 
+/* Leaves out the line that ends with the bracket at the label's end, and a column after it: in place. */
+static inline void label_without_line(char *label)
+{
+    size_t length = strlen(label), end = length > 0 && label[length - 1] == ')' ? length - 1 : 0;
+    size_t column = label_column(label), at = label_number(label, column > 0 ? column : end);
+    if (at > 0)
+        memmove(label + at, label + end, length - end + 1);
+}
+
 /* Whether they differ in their columns alone. */
 static inline int labels_part(const char *one, const char *other)
 {

@@ -1,6 +1,6 @@
 /*
- * `witness findings`, which goes on while the program does, with the file that it is told: neither has a line twice, and a look
- * costs what has come since the last one.
+ * `witness findings`, which goes on while the program does, and the resolving of the file that it is told of: neither has a
+ * line twice, and a look costs what has come since the last one.
  */
 #ifndef RECORD_GOING_VERDICT_H
 #define RECORD_GOING_VERDICT_H
@@ -22,15 +22,15 @@ struct going_verdict {
 };
 
 /*
- * Has it read what the stream has besides what was read before. RESOLVED_ANEW, where the stream has to be read from its
+ * Has it read what the stream has besides what was read before. RESOLVED_ANEW where the stream is to be read from its
  * beginning: nothing is left of what was known.
  */
 enum resolved going_reads(struct going_verdict *going, struct resolver *resolver, const char *witness,
     const struct stream *stream);
 
 /*
- * What the verifier knows by now, with all that it told of the lines: a text of one's own; NULL where it can't be asked. Orders
- * that were told at an earlier look are there where they are wanted.
+ * What the verifier knows by now, with all that it told of the lines: a text of one's own; NULL where it can't be asked.
+ * Orders are kept for a later look where they are wanted.
  */
 char *going_looks(struct going_verdict *going, bool wants_orders, size_t *length);
 

@@ -20,7 +20,7 @@ void columns_end(struct columns *columns);
 /* That of the place's function of that number, of which the line is known: FILE:LINE. 0 where the column isn't known. */
 unsigned column_at(const struct declared *declared, const struct place *place, size_t frame, const char *site);
 
-/* Looks at a further call. Whether columns part calls of a line that they didn't part before: then steps (steps.h) come to be others. */
+/* Looks at a further call. Whether columns part calls of its line from now on: then steps (steps.h) come to be others. */
 bool columns_read(const struct declared *declared, uint32_t place);
 
 /* As column_at where other calls that were looked at stand at other columns of that line; else 0. */

@@ -214,20 +214,11 @@ static void say_variable(struct making_name *name, bool is_array)
     }
 }
 
-/* The line at the end of a label, `(FILE:LINE)`, and a column after it, is left out: in place. */
-static void leave_line_out(char *label)
-{
-    size_t length = strlen(label), end = length > 0 && label[length - 1] == ')' ? length - 1 : 0;
-    size_t column = label_column(label), at = label_number(label, column > 0 ? column : end);
-    if (at > 0)
-        memmove(label + at, label + end, length - end + 1);
-}
-
 static void say_label(struct making_name *name)
 {
     const char *field = lock_field_of(name->declared, name->type);
     char *label = copy(field ? field : name->type->label);
-    leave_line_out(label);
+    label_without_line(label);
     say(name, label);
     free(label);
 }

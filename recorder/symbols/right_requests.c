@@ -39,6 +39,7 @@ struct right_requests {
     struct held *seat;
     struct map known;  /* requests that are in the list */
     struct map single; /* of two single locks, in that order */
+    bool lacks_pairs;
     struct met *met;
     size_t mets, met_room;
 };
@@ -342,16 +343,18 @@ bool right_requests_read(struct right_requests *requests, const struct types *ty
 {
     struct line line;
     size_t before = requests->mets;
+    bool lacked_pairs = requests->lacks_pairs;
     requests->types = types;
+    requests->lacks_pairs = requests->declared->lacks_pairs;
     while (has_any(requests) && line_next(&line, &at, end))
         read_call(requests, &line);
-    return requests->mets > before;
+    return requests->mets > before || requests->lacks_pairs != lacked_pairs;
 }
 
 void right_requests_silence(const struct right_requests *requests, const struct types *types, struct notes *notes)
 {
     notes->libraries = 0;
-    for (size_t i = 0; i < requests->mets && !requests->declared->lacks_pairs; i++)
+    for (size_t i = 0; i < requests->mets && !requests->lacks_pairs; i++)
         if (requests->met[i].is_right)
             silence(requests, types, &requests->met[i], notes);
 }

@@ -134,11 +134,11 @@ static bool read_array(struct namer *namer, uint32_t number)
     if (array) {
         struct variable whole = type->variable;
         whole.within = 0;
-        size_t brackets = strcspn(array, "[");
+        size_t named = strcspn(array, "[");
         add(&naming->source, variable);
         add(&naming->source, array);
         add(&naming->plain, variable_name(namer->declared, &whole));
-        add(&naming->plain, array[brackets] ? array + brackets : "[]");
+        add(&naming->plain, array[named] ? array + named : "[]");
     }
     free(variable);
     free(array);
@@ -159,15 +159,6 @@ static void read_variable_type(struct namer *namer, uint32_t number)
     free(identity);
 }
 
-/* The line at the end of a label, `(FILE:LINE)`, goes with the file's changes: it is left out, in place. */
-static void leave_line_out(char *label)
-{
-    size_t length = strlen(label), end = length > 0 && label[length - 1] == ')' ? length - 1 : 0;
-    size_t column = label_column(label), at = label_number(label, column > 0 ? column : end);
-    if (at > 0)
-        memmove(label + at, label + end, length - end + 1);
-}
-
 /* A type that the program names: the place where it was made is its source, and no part of its name. */
 static void read_label(struct namer *namer, uint32_t number)
 {
@@ -181,7 +172,7 @@ static void read_label(struct namer *namer, uint32_t number)
     add(&naming->source, " ");
     add(&naming->source, made);
     add(&naming->plain, label);
-    leave_line_out(label);
+    label_without_line(label);
     add(&naming->functions, label);
     free(made);
     free(label);
