@@ -62,7 +62,7 @@ static void look_at(const struct declared *declared, struct known_line *line, co
     line->is_parted = column != 0 && column != line->column;
 }
 
-bool columns_read(const struct declared *declared, uint32_t number_of_place)
+static bool read_place(const struct declared *declared, uint32_t number_of_place)
 {
     struct columns *columns = declared->columns;
     const struct place *place = place_of(declared, number_of_place);
@@ -81,6 +81,17 @@ bool columns_read(const struct declared *declared, uint32_t number_of_place)
             parts |= line->is_parted && !was_parted;
         }
     }
+    return parts;
+}
+
+bool columns_go_on(struct declared *declared)
+{
+    bool parts = false;
+    if (declared->deepest == 0)
+        return false;
+    for (size_t i = 0; i < declared->calls; i++)
+        parts |= read_place(declared, declared->call[i]);
+    declared->calls = 0;
     return parts;
 }
 

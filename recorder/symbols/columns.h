@@ -6,7 +6,6 @@
 
 #include <stdbool.h>
 #include <stddef.h>
-#include <stdint.h>
 
 struct columns;
 struct declared;
@@ -20,8 +19,11 @@ void columns_end(struct columns *columns);
 /* That of the place's function of that number, of which the line is known: FILE:LINE. 0 where the column isn't known. */
 unsigned column_at(const struct declared *declared, const struct place *place, size_t frame, const char *site);
 
-/* Looks at a further call. Whether columns part calls of its line from now on: then steps (steps.h) come to be others. */
-bool columns_read(const struct declared *declared, uint32_t place);
+/*
+ * Looks at the calls that have come since, where a type has steps (steps.h). Whether columns part calls of a line that they
+ * didn't part before: then steps come to be others.
+ */
+bool columns_go_on(struct declared *declared);
 
 /* As column_at where other calls that were looked at stand at other columns of that line; else 0. */
 unsigned column_that_parts(const struct declared *declared, const struct place *place, size_t frame, const char *site);

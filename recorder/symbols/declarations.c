@@ -89,8 +89,11 @@ static struct place *new_place(struct declared *declared, const struct line *lin
         declared->is_odd = true;
         return NULL;
     }
-    declared->place = reach(declared->place, &declared->places, &declared->place_room, number, sizeof *declared->place);
-    return &declared->place[number];
+    declared->place_at =
+        reach(declared->place_at, &declared->places, &declared->place_room, number, sizeof *declared->place_at);
+    struct place *place = &ADD(declared->place, declared->placed, declared->placed_room);
+    declared->place_at[number] = (uint32_t)declared->placed;
+    return place;
 }
 
 /* Of an object that a place is in. */
@@ -114,7 +117,7 @@ static void read_place(struct declared *declared, const struct line *line)
         return;
     *place = read;
     find_binary(declared, read.object);
-    declared->has_news |= columns_read(declared, (uint32_t)(place - declared->place));
+    field_number(line, 1, PLACE_MOST - 1, &ADD(declared->call, declared->calls, declared->call_room));
 }
 
 /* The two places stand before it: so none leads back to itself. */
@@ -387,8 +390,10 @@ void declared_end(struct declared *declared)
 {
     free(declared->object);
     free(declared->place);
+    free(declared->place_at);
     free(declared->stack);
     free(declared->type);
+    free(declared->call);
     free(declared->standing);
     texts_end(declared->texts);
     texts_end(declared->derived);
@@ -405,7 +410,8 @@ const struct object *object_of(const struct declared *declared, uint32_t number)
 const struct place *place_of(const struct declared *declared, uint32_t number)
 {
     static const struct place nothing;
-    return number < declared->places ? &declared->place[number] : &nothing;
+    uint32_t at = number < declared->places ? declared->place_at[number] : 0;
+    return at > 0 ? &declared->place[at - 1] : &nothing;
 }
 
 const char *object_name(const struct declared *declared, uint32_t number)

@@ -74,11 +74,15 @@ struct seats;
 
 struct declared {
     struct object *object;
-    struct place *place;
+    struct place *place; /* in the sequence of the stream, whose numbers are any */
+    size_t placed, placed_room;
+    uint32_t *place_at; /* by numbers: where each is there, from 1 on; 0 where it is none */
     struct stack *stack;
     struct type *type;
     size_t objects, places, stacks, types; /* one more than the highest number */
     size_t object_room, place_room, stack_room, type_room;
+    uint32_t *call; /* places that are calls, and that columns.h hasn't looked at */
+    size_t calls, call_room;
     size_t deepest; /* the most places that name a type */
     size_t locks;
     unsigned long lines, pending;

@@ -154,7 +154,7 @@ static bool declare(struct resolving *resolving, const char *at, const char *end
     struct declared *declared = &resolving->declared;
     bool is_first = resolving->read == 0;
     declared_read(declared, at, end, resolving->making.progress);
-    bool has_news = declared->has_news;
+    bool has_news = columns_go_on(declared) || declared->has_news;
     bool is_crowded = declared->crowded > resolving->crowded;
     resolving->crowded = declared->crowded;
     if ((has_news || is_first) && !name_types(resolving))

@@ -119,14 +119,16 @@ static const char *find_site(struct sites *sites, const struct place *place)
 
 const char *site_of(struct sites *sites, uint32_t place)
 {
-    if (place >= sites->declared->places)
+    const struct declared *declared = sites->declared;
+    uint32_t at = place < declared->places ? declared->place_at[place] : 0;
+    if (at == 0)
         return nowhere;
-    if (place >= sites->room) {
-        sites->site = grow(sites->site, sites->declared->place_room, sizeof *sites->site);
-        memset(sites->site + sites->room, 0, (sites->declared->place_room - sites->room) * sizeof *sites->site);
-        sites->room = sites->declared->place_room;
+    if (at > sites->room) {
+        sites->site = grow(sites->site, declared->placed_room, sizeof *sites->site);
+        memset(sites->site + sites->room, 0, (declared->placed_room - sites->room) * sizeof *sites->site);
+        sites->room = declared->placed_room;
     }
-    if (!sites->site[place])
-        sites->site[place] = find_site(sites, place_of(sites->declared, place));
-    return sites->site[place];
+    if (!sites->site[at - 1])
+        sites->site[at - 1] = find_site(sites, &declared->place[at - 1]);
+    return sites->site[at - 1];
 }

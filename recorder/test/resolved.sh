@@ -209,7 +209,7 @@ fi
 # A file that is read as it grows is read as one that is whole. Leaks aren't looked for (lasting.sh).
 if wanted pieces; then
     compile_resolved
-    for program in reversal crowd oneline bank accounts; do
+    for program in reversal oneline bank arrays; do
         compile $program && record_stream 8 ./$program
         ASAN_OPTIONS=$ASAN_OPTIONS:detect_leaks=0 ./resolved 8 stream >whole.lines
         for pieces in 1 7 50; do
