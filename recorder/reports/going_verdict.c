@@ -61,46 +61,49 @@ static bool has_moment(const char *text, size_t length)
     return length > sizeof clean && text[length - 1] == '\n' && strncmp(last, clean, sizeof clean - 1) == 0;
 }
 
-/* Whether the line tells what is so from then on. */
-static bool is_lasting(const char *line, bool wants_orders)
+/* Where the line is kept; NULL where it tells of a moment, or isn't wanted. */
+static struct told_lines *place_of(struct going_verdict *going, const char *line, bool wants_orders)
 {
     static const char *const lasting[] = {"{\"finding\":\"report\"", "{\"finding\":\"bad\""};
     for (size_t i = 0; i < sizeof lasting / sizeof *lasting; i++)
         if (strncmp(line, lasting[i], strlen(lasting[i])) == 0)
-            return true;
-    return wants_orders && strncmp(line, order, sizeof order - 1) == 0;
+            return &going->kept;
+    return wants_orders && strncmp(line, order, sizeof order - 1) == 0 ? &going->orders : NULL;
 }
 
-static void keep_line(struct going_verdict *going, const char *line, size_t length)
+static void add(struct told_lines *to, const char *bytes, size_t length)
 {
-    while (going->kept_length + length > going->kept_room) {
-        going->kept_room = going->kept_room ? 2 * going->kept_room : 1 << 14;
-        going->kept = grow(going->kept, going->kept_room, 1);
+    while (to->length + length > to->room) {
+        to->room = to->room ? 2 * to->room : 1 << 14;
+        to->bytes = grow(to->bytes, to->room, 1);
     }
-    memcpy(going->kept + going->kept_length, line, length);
-    going->kept_length += length;
+    if (length > 0)
+        memcpy(to->bytes + to->length, bytes, length);
+    to->length += length;
 }
 
 /* Keeps of what was told last what is so from then on. */
 static void keep(struct going_verdict *going, bool wants_orders)
 {
     const char *at = going->fresh, *end = at + going->fresh_length, *after;
-    for (; at < end && (after = memchr(at, '\n', (size_t)(end - at))) != NULL; at = after + 1)
-        if (is_lasting(at, wants_orders))
-            keep_line(going, at, (size_t)(after + 1 - at));
+    for (; at < end && (after = memchr(at, '\n', (size_t)(end - at))) != NULL; at = after + 1) {
+        struct told_lines *to = place_of(going, at, wants_orders);
+        if (to)
+            add(to, at, (size_t)(after + 1 - at));
+    }
 }
 
-/* All that it told: of the lines, and of the last moment. */
+/* What it told of the lines before, and since the last moment. */
 static char *told_by(struct going_verdict *going, size_t *length)
 {
+    struct told_lines told = {0};
     fflush(going->to);
-    *length = going->kept_length + going->fresh_length;
-    char *told = take(*length + 1);
-    if (going->kept_length > 0)
-        memcpy(told, going->kept, going->kept_length);
-    if (going->fresh_length > 0)
-        memcpy(told + going->kept_length, going->fresh, going->fresh_length);
-    return told;
+    add(&told, going->kept.bytes, going->kept.length);
+    if (going->has_ended)
+        add(&told, going->orders.bytes, going->orders.length);
+    add(&told, going->fresh, going->fresh_length);
+    *length = told.length;
+    return told.bytes ? told.bytes : copy("");
 }
 
 char *going_looks(struct going_verdict *going, bool wants_orders, size_t *length)
@@ -139,6 +142,7 @@ void going_leaves(struct going_verdict *going)
         fclose(going->to);
     resolving_end(going->resolving);
     free(going->fresh);
-    free(going->kept);
+    free(going->kept.bytes);
+    free(going->orders.bytes);
     *going = (struct going_verdict){0};
 }

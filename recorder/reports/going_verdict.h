@@ -8,6 +8,12 @@
 #include "resolve.h"
 #include "verdict.h"
 
+/* Lines that were told. */
+struct told_lines {
+    char *bytes;
+    size_t length, room;
+};
+
 /* A new struct is all zeroes. */
 struct going_verdict {
     struct resolving *resolving; /* NULL where nothing was read */
@@ -16,8 +22,8 @@ struct going_verdict {
     FILE *to;
     char *fresh; /* what it tells since the last look */
     size_t fresh_length;
-    char *kept; /* what it told before of the lines themselves, and not of a moment */
-    size_t kept_length, kept_room;
+    /* What it told before of the lines themselves, and not of a moment: reports and bad lines; orders. */
+    struct told_lines kept, orders;
     int status; /* once it has ended, as a shell says it */
 };
 
@@ -29,12 +35,12 @@ enum resolved going_reads(struct going_verdict *going, struct resolver *resolver
     const struct stream *stream);
 
 /*
- * What the verifier knows by now, with all that it told of the lines: a text of one's own; NULL where it can't be asked.
- * Orders are kept for a later look where they are wanted.
+ * What the verifier knows by now, with the reports and bad lines that it told before: a text of one's own; NULL where it can't
+ * be asked. Orders are kept for its end where they are wanted.
  */
 char *going_looks(struct going_verdict *going, bool wants_orders, size_t *length);
 
-/* As going_looks, and it ends: asked again it has told the same. */
+/* As going_looks, with all orders that were kept, and it ends: asked again it has told the same. */
 char *going_ends(struct going_verdict *going, size_t *length);
 
 /* Nothing more is wanted of it. */
