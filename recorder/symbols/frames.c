@@ -48,6 +48,22 @@ static bool add_place(struct gathering *gathering, const struct place *place)
     return gathering->count >= gathering->most || (function && strcmp(function, "main") == 0);
 }
 
+/*
+ * How many places there are up to where the thread begins. That is in functions of the C library which have no name in the
+ * object. To know them, its debug information would be read, which may take long.
+ */
+static size_t places_of_program(const struct declared *declared, const struct stack *stack)
+{
+    size_t count = stack->count;
+    for (; count > 1; count--) {
+        const struct place *place = place_of(declared, stack->place[count - 1]);
+        const char *path = object_of(declared, place->object)->path;
+        if (place->kind != PLACE_CALL || place->function || !path || !is_c_library(path))
+            break;
+    }
+    return count;
+}
+
 /* The places of the stack. A first one by name whose function wasn't told is in that of its caller. */
 static void add_stack(struct gathering *gathering, const struct stack *stack)
 {
@@ -56,7 +72,8 @@ static void add_stack(struct gathering *gathering, const struct stack *stack)
     size_t from = first && first->kind == PLACE_SITE && !first->site->function;
     if (from > 0)
         gathering->told = site_of(gathering->sites, stack->place[0]);
-    for (size_t i = from; i < stack->count; i++)
+    size_t count = places_of_program(declared, stack);
+    for (size_t i = from; i < count; i++)
         if (add_place(gathering, place_of(declared, stack->place[i])))
             break;
     if (gathering->told)

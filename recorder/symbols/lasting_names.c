@@ -255,7 +255,7 @@ static const char *build_ids(const struct making_name *name)
 static bool is_of_c_library(const struct declared *declared, const struct step *step)
 {
     const char *path = object_of(declared, step->place->object)->path;
-    return step->place->kind == PLACE_CALL && path && strncmp(base_of(path), "libc.so.", 8) == 0;
+    return step->place->kind == PLACE_CALL && path && is_c_library(path);
 }
 
 /* The callers up to the C library. */

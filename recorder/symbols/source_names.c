@@ -325,6 +325,11 @@ bool is_thread_begin(const char *name)
     return begins(name, "__libc_start_");
 }
 
+bool is_c_library(const char *path)
+{
+    return begins(base_of(path), "libc.so.");
+}
+
 bool is_library_object(const char *path)
 {
     const char *name = base_of(path);

@@ -33,6 +33,8 @@ bool is_callback(const char *mangled);
 bool is_wrapper(const char *name, const char *patterns);
 /* Whether a thread begins in the function. */
 bool is_thread_begin(const char *name);
+/* Whether the object's file is the C library itself. */
+bool is_c_library(const char *path);
 /* Whether the object's file is C++'s library itself. */
 bool is_library_object(const char *path);
 
