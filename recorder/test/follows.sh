@@ -66,7 +66,7 @@ runs_made() {
 }
 
 # The verifier goes on with the program, and has each line once.
-if wanted once; then
+if wanted once && has_libdw once; then
     compile live && compile kinds
     printf '#!/bin/sh\necho "$1" >>"%s/words"\nexec "%s" "$@"\n' "$work" "$WITNESS" >counting && chmod +x counting
     verifier=$WITNESS
@@ -82,6 +82,14 @@ if wanted once; then
     "$record" --quiet --ignore list --json once.json -- ./kinds 2>recorded.err
     [ "$(runs_made)" -eq 2 ] && [ "$(grep -c '"silenced": true' once.json)" -eq 2 ] && grep -q 'list silences 2 reports' recorded.err
     tell once "what is silenced is asked for with the rest" $?
+    # Its input: a file that is read as it grows is begun once, but where types come to be one.
+    printf '#!/bin/sh\n[ "$1" = findings ] || exec "%s" "$@"\ntee -a "%s/lines" | "%s" "$@"\n' "$verifier" "$work" "$verifier" >counting
+    for level in -g -g1; do
+        compile later $level && rm -f lines && "$record" -- ./later >recorded.out 2>recorded.err
+        [ "$(grep -c '^asked' lines)" -eq $([ $level = -g ] && echo 1 || echo 2) ] && grep -qx look lines &&
+            grep -q '^ "front" -> "back" @ later.c:17$' recorded.err
+        tell once "each line is told once ($level)" $?
+    done
     WITNESS=$verifier
 fi
 
