@@ -1,6 +1,6 @@
 /*
  * The proved verifier for programs in C and C++: the calls of crates/wit_c, which its static library exports. Each call
- * is given the place in which the caller holds a verifier, and answers a number:
+ * (but wit_asserted) is given the place in which the caller holds a verifier, and answers a number:
  *
  *   from 0         what the call was answered (below)
  *   -1 to -36      the fault by which it was refused: -6 is F6 of docs/RULES.md. Nothing has changed
