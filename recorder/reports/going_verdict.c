@@ -89,15 +89,6 @@ static bool feed(struct going_verdict *going, const char *witness)
     return true;
 }
 
-/* Whether the text has told all of a moment. */
-static bool has_moment(const char *text, size_t length)
-{
-    static const char clean[] = "{\"finding\":\"clean\"";
-    const char *last = length > 0 && text[length - 1] == '\n' ? memrchr(text, '\n', length - 1) : NULL;
-    last = last ? last + 1 : text;
-    return length > sizeof clean && text[length - 1] == '\n' && strncmp(last, clean, sizeof clean - 1) == 0;
-}
-
 /* Whether the line tells what is so from then on. */
 static bool is_lasting(const char *line)
 {
@@ -144,7 +135,7 @@ char *going_looks(struct going_verdict *going, const char *witness, size_t *leng
             return NULL;
         }
         fflush(going->to);
-    } while (!has_moment(going->fresh, going->fresh_length));
+    } while (!verdict_told_moment(going->fresh, going->fresh_length));
     char *told = told_by(going, length);
     keep(going);
     return told;

@@ -70,6 +70,12 @@ static void make_lines(struct process *process, struct tee *tee)
     process->resolved &= fclose(to) == 0;
 }
 
+static void begin(struct process *process, struct replaying *replaying)
+{
+    struct run *run = process->run;
+    replaying_begin(replaying, &run->answers, run->settings.witness, run->recordings > 1);
+}
+
 /* All that has come. What the verifier told, a text of one's own. */
 static char *told_of(struct process *process, struct replaying *replaying, size_t *length)
 {
@@ -82,7 +88,7 @@ static char *ask(struct process *process, size_t *length)
 {
     struct replaying replaying;
     struct tee tee = {.replaying = &replaying};
-    replaying_begin(&replaying, &process->run->answers, process->run->settings.witness);
+    begin(process, &replaying);
     make_lines(process, &tee);
     return told_of(process, &replaying, length);
 }
@@ -101,7 +107,7 @@ static char *ask_going(struct process *process, struct going_verdict *going, siz
     if (told && process->status <= BAD_LINES)
         return told;
     free(told);
-    replaying_begin(&replaying, &process->run->answers, witness);
+    begin(process, &replaying);
     replaying_takes(&replaying, going->lines, going->length);
     going_leaves(going);
     return told_of(process, &replaying, length);
