@@ -52,15 +52,6 @@ enum resolved going_reads(struct going_verdict *going, struct resolver *resolver
     return resolved;
 }
 
-/* Whether the text has told all of a moment. */
-static bool has_moment(const char *text, size_t length)
-{
-    static const char clean[] = "{\"finding\":\"clean\"";
-    const char *last = length > 0 && text[length - 1] == '\n' ? memrchr(text, '\n', length - 1) : NULL;
-    last = last ? last + 1 : text;
-    return length > sizeof clean && text[length - 1] == '\n' && strncmp(last, clean, sizeof clean - 1) == 0;
-}
-
 /* Where the line is kept; NULL where it tells of a moment, or isn't wanted. */
 static struct told_lines *place_of(struct going_verdict *going, const char *line, bool wants_orders)
 {
@@ -118,7 +109,7 @@ char *going_looks(struct going_verdict *going, bool wants_orders, size_t *length
         if (!verdict_hears(&going->verdict))
             return NULL;
         fflush(going->to);
-    } while (!has_moment(going->fresh, going->fresh_length));
+    } while (!verdict_told_moment(going->fresh, going->fresh_length));
     char *told = told_by(going, length);
     keep(going, wants_orders);
     return told;

@@ -56,7 +56,7 @@ static char *ask(struct process *process, size_t *length)
     struct run *run = process->run;
     struct replaying replaying;
     struct resolving *resolving = resolving_new(run->resolver, &process->stream);
-    replaying_begin(&replaying, &run->answers, run->settings.witness);
+    replaying_begin(&replaying, &run->answers, run->settings.witness, run->recordings > 1);
     FILE *to = fopencookie(&replaying, "w", (cookie_io_functions_t){.write = feed});
     if (to) {
         setvbuf(to, NULL, _IOFBF, BUFFER_BYTES);

@@ -14,12 +14,13 @@ void answers_end(struct answers *answers)
         free(answers->answer[i].told);
     }
     free(answers->answer);
+    shared_end(&answers->shared);
     *answers = (struct answers){0};
 }
 
-void replaying_begin(struct replaying *replaying, struct answers *answers, const char *witness)
+void replaying_begin(struct replaying *replaying, struct answers *answers, const char *witness, bool shares)
 {
-    *replaying = (struct replaying){.answers = answers, .witness = witness};
+    *replaying = (struct replaying){.answers = answers, .witness = witness, .shares = shares};
 }
 
 /* Begins the verifier, with what has come so far. */
@@ -87,6 +88,22 @@ static int end(struct replaying *replaying)
     return status;
 }
 
+/* All lines have come, few of them. Where the others' verifier can't be asked, one of their own is. */
+static int ask(struct replaying *replaying)
+{
+    struct shared_verdict *shared = &replaying->answers->shared;
+    size_t *length = &replaying->told_length;
+    int status = 0;
+    if (replaying->shares)
+        replaying->told = shared_tells(shared, replaying->witness, replaying->lines, replaying->length, length);
+    if (!replaying->told) {
+        begin(replaying);
+        status = end(replaying);
+    }
+    keep(replaying, status);
+    return status;
+}
+
 int replaying_end(struct replaying *replaying)
 {
     bool is_short = !replaying->is_begun;
@@ -97,11 +114,7 @@ int replaying_end(struct replaying *replaying)
         replaying->told = copy_bytes(before->told, before->told_length);
         replaying->told_length = before->told_length;
     } else {
-        if (is_short)
-            begin(replaying);
-        status = end(replaying);
-        if (is_short)
-            keep(replaying, status);
+        status = is_short ? ask(replaying) : end(replaying);
     }
     free(replaying->lines);
     replaying->lines = NULL;

@@ -1,6 +1,6 @@
 /*
  * What `witness findings` tells of a process's lines. In a run of many processes most are alike: it isn't asked again about
- * lines that it was asked about before.
+ * lines that it was asked about before. About others one program is asked, as long as there are few lines of each.
  */
 #ifndef RECORD_REPLAY_ANSWERS_H
 #define RECORD_REPLAY_ANSWERS_H
@@ -9,6 +9,7 @@
 #include <stddef.h>
 #include <stdio.h>
 
+#include "shared_verdict.h"
 #include "verdict.h"
 
 /* What it told of some lines. */
@@ -23,6 +24,7 @@ struct answers {
     struct answer *answer;
     size_t count, room;
     size_t bytes; /* how long all are together */
+    struct shared_verdict shared;
 };
 
 void answers_end(struct answers *answers);
@@ -31,6 +33,7 @@ void answers_end(struct answers *answers);
 struct replaying {
     struct answers *answers;
     const char *witness;
+    bool shares; /* the verifier that others are asked about is asked */
     char *lines;
     size_t length, room;
     struct verdict verdict;
@@ -40,10 +43,11 @@ struct replaying {
     size_t told_length;
 };
 
-void replaying_begin(struct replaying *replaying, struct answers *answers, const char *witness);
+/* Of one process alone the verifier is asked by itself: then it may as well answer when it has all lines. */
+void replaying_begin(struct replaying *replaying, struct answers *answers, const char *witness, bool shares);
 void replaying_takes(struct replaying *replaying, const char *bytes, size_t length);
 
-/* All have come. The verifier's status, as a shell says it. */
+/* All have come. The verifier's status, as a shell says it; where it goes on for others, 0. */
 int replaying_end(struct replaying *replaying);
 
 #endif

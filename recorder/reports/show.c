@@ -209,6 +209,7 @@ struct run *show_begins(const struct settings *settings, const char *work, const
     run->work = work;
     run->records = records;
     run->resolver = resolver_new(&run->settings);
+    run->answers.shared.is_of_no_use = settings->one_by_one;
     return run;
 }
 

@@ -5,6 +5,7 @@
 #include <poll.h>
 #include <signal.h>
 #include <spawn.h>
+#include <string.h>
 #include <sys/wait.h>
 #include <time.h>
 #include <unistd.h>
@@ -129,6 +130,14 @@ bool verdict_hears(struct verdict *verdict)
     if (verdict->out >= 0)
         take_output(verdict);
     return verdict->out >= 0;
+}
+
+bool verdict_told_moment(const char *told, size_t length)
+{
+    static const char clean[] = "{\"finding\":\"clean\"";
+    const char *last = length > 0 && told[length - 1] == '\n' ? memrchr(told, '\n', length - 1) : NULL;
+    last = last ? last + 1 : told;
+    return length > sizeof clean && told[length - 1] == '\n' && strncmp(last, clean, sizeof clean - 1) == 0;
 }
 
 int verdict_end(struct verdict *verdict)

@@ -29,6 +29,9 @@ void verdict_feed(struct verdict *verdict, const char *bytes, size_t length);
 /* Waits for what it tells next. False where it tells no more. */
 bool verdict_hears(struct verdict *verdict);
 
+/* Whether what `witness findings` has told ends with all of a moment: what it tells where a line `look` asks for it. */
+bool verdict_told_moment(const char *told, size_t length);
+
 /* No more of the trace comes. Its status, as a shell says it. */
 int verdict_end(struct verdict *verdict);
 

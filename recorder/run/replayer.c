@@ -92,15 +92,16 @@ void replayer_check(struct settings *settings)
     if (!file_is_command(witness))
         fail("%s can't be run, and nothing else replays: nothing was run", witness);
     if (is_trial(settings)) {
-        settings->quiet = true;
+        settings->quiet = settings->one_by_one = true;
         return;
     }
     witness = *words = settings->witness;
-    int status = brief_run(words, "", false);
+    int status = brief_run(words, "process 1\n", false);
     if (status >= NOT_RUN)
         fail("%s can't be run: nothing was run", witness);
     if (status == BAD_USAGE)
         fail("%s doesn't know the word findings: nothing was run", witness);
+    settings->one_by_one = status != 0;
     if (settings->judge && !knows(witness, "migrate", ""))
         fail("%s doesn't know --judge: nothing was run", witness);
     if (is_asked(settings->html) && !document_is_known(witness, "html"))

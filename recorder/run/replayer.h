@@ -7,9 +7,10 @@
 #include "settings.h"
 
 /*
- * Fails where it can't be run, or doesn't know what was asked for. `settings->witness` is as it was named; where that is the
- * script of a repository whose program stands built, it is that program after this. A trial takes minutes, so with it
- * nothing is told before the end, and grades are asked of no other than a program that stands built.
+ * Fails where it can't be run, or doesn't know what was asked for. Whether it can judge one process after another is in the
+ * settings then. `settings->witness` is as it was named; where that is the script of a repository whose program stands built,
+ * it is that program after this. A trial takes minutes, so with it nothing is told before the end, and grades are asked of no
+ * other than a program that stands built.
  */
 void replayer_check(struct settings *settings);
 

@@ -47,6 +47,7 @@ struct settings {
     bool in_debugger; /* the program's process is a debugger's child */
     bool quiet;       /* nothing is told before the program has ended */
     bool progress;    /* somebody sits at a terminal */
+    bool one_by_one;  /* the verifier is begun anew for each process */
 };
 
 #endif

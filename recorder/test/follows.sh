@@ -82,6 +82,16 @@ if wanted once && has_libdw once; then
     "$record" --quiet --ignore list --json once.json -- ./kinds 2>recorded.err
     [ "$(runs_made)" -eq 2 ] && [ "$(grep -c '"silenced": true' once.json)" -eq 2 ] && grep -q 'list silences 2 reports' recorded.err
     tell once "what is silenced is asked for with the rest" $?
+    rm -f words
+    "$record" --quiet -- sh -c './live 0; ./kinds' 2>both.err </dev/null
+    [ "$(runs_made)" -eq 2 ] && grep -q '^record: 3 reports, 0 circles, 2 processes$' both.err
+    tell once "one verifier for processes that differ" $?
+    printf '#!/bin/sh\necho "$1" >>"%s/words"\n[ "$1" = findings ] || exec "%s" "$@"\nsed -u "s/^process /PROCESS /" | "%s" "$@"\n' \
+        "$work" "$verifier" "$verifier" >counting && rm -f words
+    "$record" --quiet -- sh -c './live 0; ./kinds' 2>recorded.err </dev/null
+    sed -i 's/^==[0-9]*== //' both.err recorded.err
+    [ "$(runs_made)" -eq 3 ] && diff both.err recorded.err
+    tell once "one for each where it can't judge one after another" $?
     # Its input: a file that is read as it grows is begun once, but where types come to be one.
     printf '#!/bin/sh\n[ "$1" = findings ] || exec "%s" "$@"\ntee -a "%s/lines" | "%s" "$@"\n' "$verifier" "$work" "$verifier" >counting
     for level in -g -g1; do

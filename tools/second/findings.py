@@ -1,4 +1,4 @@
-"""What a recording shows, read once more by the rules: what `recorder/test/find` has `witness findings` compared with.
+"""What recordings show, read once more by the rules: what `recorder/test/find` has `witness findings` compared with.
 
     python3 findings.py < RECORDING
     python3 findings.py --name < RECORDING
@@ -26,7 +26,7 @@ FIELDS = {
     "init": rb"S (" + CLASS.encode() + rb") (-|s|r|rs) N N( .*)?", "thread": rb"S [^ ]* N N",
     "check": rb"S N ([sx]) [nk] N( N)?", "try": rb"S N ([sx]) N( N)?", "lock": rb"S N", "giveup": rb"S N",
     "unlock": rb"S N ([sx])", "again": rb"S N N", "foreign": rb"S N N",
-    "error": rb"(ended|destroyed|freed|remade|waited|reread) S N N",
+    "error": rb"(ended|destroyed|freed|remade|waited|reread) S N N", "process": rb"N",
 }
 
 
@@ -68,9 +68,16 @@ def fields(line):
     return word, read, words
 
 
+def process_of(line):
+    """The process that the lines after this one are of, where it says so."""
+    read = fields(line) if len(line) <= LONGEST else None
+    return read[1][0] if read and read[0] == "process" else None
+
+
 class Recording(Verifier):
-    def __init__(self):
+    def __init__(self, process=None):
         super().__init__(SEATS, 1023, 65_536, 65_536, True)
+        self.process = process
         self.names, self.own, self.threads, self.spots = {}, [], {}, []
         self.numbers = {}  # of a lock here, that of the recording
         self.calls = self.bad = 0
@@ -240,19 +247,39 @@ class Recording(Verifier):
             return self.refused(number, str(fault)), True
 
 
+def of(recording, found):
+    """These findings, with the number of the process that they are of."""
+    for one in found:
+        process = {} if recording.process is None else {"process": recording.process}
+        yield {"finding": one["finding"], **process, **one}
+
+
+def ends(recordings):
+    """What is told at the end, by the numbers of processes."""
+    for process in sorted(recordings, key=lambda number: -1 if number is None else number):
+        yield from of(recordings[process], recordings[process].end())
+
+
 def findings(text):
-    """Those of a recording."""
+    """Those of recordings: lines may say which process those after them are of."""
     recording = Recording()
+    recordings = {None: recording}
     *lines, last = text.split(b"\n")
     for number, line in enumerate(lines, 1):
+        process = process_of(line)
+        if process is not None:
+            if number == 1:
+                del recordings[None]
+            recording = recordings.setdefault(process, Recording(process))
+            continue
         found, goes = recording.line(number, line)
-        yield from found
+        yield from of(recording, found)
         if not goes:
-            yield from recording.end()
+            yield from ends(recordings)
             return
     if last:
-        yield from recording.refused(len(lines) + 1, "long" if len(last) > LONGEST else "cut")
-    yield from recording.end()
+        yield from of(recording, recording.refused(len(lines) + 1, "long" if len(last) > LONGEST else "cut"))
+    yield from ends(recordings)
 
 
 def named(text):

@@ -1,2 +1,4 @@
 pub mod Following
+pub mod Lines
+pub mod Reading
 pub mod Runs

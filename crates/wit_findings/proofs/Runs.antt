@@ -1,81 +1,48 @@
--- What a run of findings reads and writes, by what was told in place of the machine.
-use Rattle.std.proofs.Common.{◌≡◌, ℕ, List, [], Option, Some, None, Result, Ok, Err, IfOk, OnErr, subst, refl}
-use Rattle.std.proofs.KnownBytes.{Appends-nil}
-use Rattle.wit_stream.specs.Stream.{IsInput, ReadingGoesOn, OutputFrom, ReadsToEnd, WritesFront}
-use Rattle.wit_stream.specs.Stream.{WritesLines}
+-- The processes of a run.
+use Rattle.std.proofs.Common.{◌≡◌, ℕ, List, [], ◌∷◌, ◌++◌, length, map, take, drop, refl, ap, ap₂}
+use Rattle.std.proofs.Common.{sym, ◌∙◌, subst, arith}
+use Rattle.std.specs.List.{insert}
+use Rattle.std.proofs.lemmas.List.{map-append, append_assoc, take-map, drop-map}
 use Rattle.wit_stream.specs.declared.summary.Summary.{Summary}
-use Rattle.wit_stream.specs.Text.{text_of}
+use Rattle.wit_findings.specs.declared.processes.Processes.{Processes}
 use Rattle.wit_findings.specs.declared.recording.Recording.{Recording}
-use Rattle.wit_findings.specs.Existing.{some_findings}
-use Rattle.wit_findings.specs.Findings.{Finds, FindsFrom, allowed}
-use Rattle.wit_findings.specs.Told.{Told, nothing_told, told}
+use Rattle.wit_findings.specs.Findings.{AreEnds, sums}
+use Rattle.wit_findings.specs.Runs.{Run, bads, bads_of, known, nothing_told}
+use Rattle.wit_findings.specs.Told.{Told, told}
 
--- what the machine allows
-abbrev output : Recording → ℕ → List ℕ → List ℕ → Summary → Type 0
-output = OutputFrom allowed
+pub map-insert : {X Y : Type 0} (f : X → Y) (xs : List X) (i : ℕ) (x : X)
+    → map f (insert xs i x) ≡ insert (map f xs) i (f x)
+map-insert f xs i x =
+    map-append f (take i xs) (x ∷ drop i xs)
+    ∙ ap₂ (λ a b. a ++ f x ∷ b) (sym (take-map f i xs)) (sym (drop-map f i xs))
 
-module _ (m : Recording) (t : Told) (is : told m ≡ t) where
-  goes-on : (lines text : List ℕ) → ReadingGoesOn output m lines text
-      → ReadingGoesOn FindsFrom (told m) lines text
-  goes-on lines text goes = record { at = told goes.at; on = goes.on }
+-- the ends of processes, and of those after them
+pub both-end : (ts us : List Told) (one other : List ℕ) → AreEnds ts one → AreEnds us other
+    → AreEnds (ts ++ us) (one ++ other)
+both-end [] us one other first rest = subst (AreEnds us) (ap (λ xs. xs ++ other) (sym first)) rest
+both-end (t ∷ ts) us one other first rest = record {
+  first = first.first;
+  rest = first.rest ++ other;
+  parted =
+      ap (λ xs. xs ++ other) first.parted ∙ append_assoc first.first first.rest other;
+  tells = first.tells;
+  goes_on = both-end ts us first.rest other first.goes_on rest;
+}
 
-  -- the end of a run
-  pub run-end : {E : Type 0} (r0 r w0 w : Option (List ℕ)) (answer : Result Summary E)
-      → IfOk answer (ReadsToEnd output m r0 r w0 w)
-      → IfOk answer (ReadsToEnd FindsFrom t r0 r w0 w)
-  run-end r0 r w0 w (Err e) h = tt
-  run-end r0 r w0 w (Ok summary) h =
-      subst (λ from. ReadsToEnd FindsFrom from r0 r w0 w summary) is
-      (record {
-        lines = h.lines;
-        last = h.last;
-        told = h.told;
-        text = h.text;
-        whole = h.whole;
-        goes = goes-on h.lines h.told h.goes;
-        one = h.one;
-        read = h.read;
-        is_last = h.is_last;
-        written = h.written;
-      })
+pub sums-both : (ts us : List Told) (after : Summary)
+    → sums ts (sums us after) ≡ sums (ts ++ us) after
+sums-both [] us after = refl
+sums-both (t ∷ ts) us after = rw (sums-both ts us after) refl
 
-  -- what stands after a failed look
-  pub run-lines : (r0 r w0 w : Option (List ℕ)) → WritesLines output m r0 r w0 w
-      → WritesLines FindsFrom t r0 r w0 w
-  run-lines r0 r w0 w h =
-      subst (λ from. WritesLines FindsFrom from r0 r w0 w) is
-      (record {
-        lines = h.lines;
-        begun = h.begun;
-        text = h.text;
-        whole = h.whole;
-        plain = h.plain;
-        goes = goes-on h.lines h.text h.goes;
-        read = h.read;
-        written = h.written;
-      })
+-- ---- nothing is known yet
+no-others : (rs : List Recording) → map told rs ≡ [] → bads_of rs ≡ 0
+no-others [] e = refl
+no-others (r ∷ rs) e = absurd (omega (arith, ap length e))
 
--- ---- where nothing was read
-
-input-of : (read : Option (List ℕ)) → (input : List ℕ) × IsInput read input
-input-of None = ([], tt)
-input-of (Some bytes) = (bytes, refl)
-
--- nothing was written
-nothing-written : (read written : Option (List ℕ)) → WritesFront Finds read written written
-nothing-written read written =
-    let input = input-of read in
-    let some = some_findings nothing_told 1 (text_of input.0).lines (text_of input.0).tail in
-    record {
-      input = input.0;
-      text = some.0;
-      summary = some.1.0;
-      is_input = input.1;
-      is_output = some.1.1;
-      written = (0, Appends-nil written);
-    }
-
-pub nothing-where-refused : {X E : Type 0} (answer : Result X E) (read written : Option (List ℕ))
-    → OnErr answer (WritesFront Finds read written written)
-nothing-where-refused (Ok x) read written = tt
-nothing-where-refused (Err e) read written = nothing-written read written
+pub none-bad : (p : Processes) → known p ≡ nothing_told → bads p ≡ 0
+none-bad p is =
+    omega (
+      arith,
+      ap (λ (r : Run). r.now.bads) is,
+      no-others p.others.items (ap (λ (r : Run). r.others) is),
+    )

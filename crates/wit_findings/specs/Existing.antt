@@ -4,54 +4,65 @@ use Rattle.wit_model.specs.Rules.State.{state_of}
 use Rattle.wit_model.proofs.Waits.{circle_told}
 use Rattle.wit_grammar.specs.declared.parse.TheConstants.{LONGEST}
 use Rattle.wit_stream.specs.declared.summary.Summary.{Summary}
-use Rattle.wit_findings.specs.declared.recording.Recording.{Recording}
-use Rattle.wit_findings.specs.Findings.{AfterOutcome, Ends, FindsLines, allowed, at_tail, end_line}
-use Rattle.wit_findings.specs.Findings.{outcome_at, summary_of}
+use Rattle.wit_findings.specs.declared.processes.Processes.{Processes}
+use Rattle.wit_findings.specs.Findings.{AfterOutcome, AreEnds, EndsAfter, FindsLines, IsEnd, allowed}
+use Rattle.wit_findings.specs.Findings.{at_tail, end_line, outcome_at, summary_of}
+use Rattle.wit_findings.specs.Runs.{Run, in_order, known, turned, with_now}
 use Rattle.wit_findings.specs.States.{IsState, state_text}
-use Rattle.wit_findings.specs.Steps.{After, Outcome, Tells, Shows, Stops}
-use Rattle.wit_findings.specs.Told.{Told, told}
+use Rattle.wit_findings.specs.Steps.{After, Outcome, Tells, Shows, Turns, Stops}
+use Rattle.wit_findings.specs.Told.{Told}
 
 abbrev pub some_state : (t : Told) → (text : List ℕ) × IsState t text
 some_state t =
     let circle = circle_told (state_of t.story) in
     (state_text t circle.0, record { seats = circle.0; circle = circle.1; is = refl })
 
-abbrev pub some_end : (a : After) → (text : List ℕ) × ((summary : Summary) × Ends a text summary)
-some_end a =
-    let state = some_state a.told in (
-      a.text ++ (state.0 ++ end_line a.told),
+abbrev pub some_end : (t : Told) → (text : List ℕ) × IsEnd t text
+some_end t =
+    let state = some_state t in
+    (state.0 ++ end_line t, record { state = state.0; is_state = state.1; written = refl })
+
+abbrev pub some_ends : (ts : List Told) → (text : List ℕ) × AreEnds ts text
+some_ends [] = ([], refl)
+some_ends (t ∷ ts) =
+    let end = some_end t in
+    let rest = some_ends ts in (
+      end.0 ++ rest.0,
+      record { first = end.0; rest = rest.0; parted = refl; tells = end.1; goes_on = rest.1 },
+    )
+
+abbrev pub some_last : (r : Run) (a : After)
+    → (text : List ℕ) × ((summary : Summary) × EndsAfter r a text summary)
+some_last r a =
+    let all = in_order (with_now r a.told) in
+    let ends = some_ends all in (
+      a.text ++ ends.0,
       (
-        summary_of a.told,
-        record { state = state.0; is_state = state.1; written = refl; summed = refl },
+        summary_of all,
+        record { ends = ends.0; are = ends.1; written = refl; sum = refl },
       ),
     )
 
-abbrev pub some_after : (t : Told) (o : Outcome) (next : Told → List ℕ → Summary → Type 0)
-    → ((u : Told) → (text : List ℕ) × ((summary : Summary) × next u text summary))
+abbrev pub some_after : (r : Run) (n : ℕ) (o : Outcome) (next : Run → List ℕ → Summary → Type 0)
+    → ((u : Run) → (text : List ℕ) × ((summary : Summary) × next u text summary))
     → (text : List ℕ) × ((summary : Summary)
-    × AfterOutcome t o (λ u rest. next u rest summary) text summary)
-some_after t (Tells a) next some =
-    let rest = some a.told in (
+    × AfterOutcome r n o (λ u rest. next u rest summary) text summary)
+some_after r n (Tells a) next some =
+    let rest = some (with_now r a.told) in (
       a.text ++ rest.0,
       (
         rest.1.0,
-        record {
-          of_line = a.text;
-          rest = rest.0;
-          parted = refl;
-          tells = refl;
-          goes_on = rest.1.1;
-        },
+        record { first = a.text; rest = rest.0; parted = refl; tells = refl; goes_on = rest.1.1 },
       ),
     )
-some_after t Shows next some =
-    let rest = some t in
-    let state = some_state t in (
+some_after r n Shows next some =
+    let rest = some r in
+    let state = some_state r.now in (
       state.0 ++ rest.0,
       (
         rest.1.0,
         record {
-          of_line = state.0;
+          first = state.0;
           rest = rest.0;
           parted = refl;
           tells = state.1;
@@ -59,17 +70,25 @@ some_after t Shows next some =
         },
       ),
     )
-some_after t (Stops a) next some = some_end a
+some_after r n (Turns process) next some =
+    let rest = some (turned r n process) in (
+      rest.0,
+      (
+        rest.1.0,
+        record { first = []; rest = rest.0; parted = refl; tells = refl; goes_on = rest.1.1 },
+      ),
+    )
+some_after r n (Stops a) next some = some_last r a
 
-abbrev pub some_findings : (t : Told) (n : ℕ) (lines : List (List ℕ)) (tail : List ℕ)
-    → (text : List ℕ) × ((summary : Summary) × FindsLines t n lines tail text summary)
-some_findings t n [] tail = some_end (at_tail t n tail)
-some_findings t n (line ∷ lines) tail =
-    some_after t (outcome_at t n (nat_lt LONGEST (length line)) line)
+abbrev pub some_findings : (r : Run) (n : ℕ) (lines : List (List ℕ)) (tail : List ℕ)
+    → (text : List ℕ) × ((summary : Summary) × FindsLines r n lines tail text summary)
+some_findings r n [] tail = some_last r (at_tail r.now n tail)
+some_findings r n (line ∷ lines) tail =
+    some_after r n (outcome_at r.now n (nat_lt LONGEST (length line)) line)
     (λ u rest summary. FindsLines u (n + 1) lines tail rest summary)
     (λ u. some_findings u (n + 1) lines tail)
 
 -- something may always be written
-abbrev pub some_allowed : (r : Recording) (n : ℕ) (lines : List (List ℕ)) (tail : List ℕ)
-    → (text : List ℕ) × ((summary : Summary) × allowed r n lines tail text summary)
-some_allowed r n lines tail = some_findings (told r) n lines tail
+abbrev pub some_allowed : (p : Processes) (n : ℕ) (lines : List (List ℕ)) (tail : List ℕ)
+    → (text : List ℕ) × ((summary : Summary) × allowed p n lines tail text summary)
+some_allowed p n lines tail = some_findings (known p) n lines tail

@@ -38,10 +38,18 @@ count_member name n = key name ∷ number (decimal n) ∷ []
 unfoldable pub text_member : List ℕ → List ℕ → List Token
 text_member name text = key name ∷ string text ∷ []
 
--- which finding it is, and the number of its line
-unfoldable pub finding_tokens : List ℕ → ℕ → List Token
-finding_tokens kind n =
-    begin_object ∷ (text_member (codes "finding") kind ++ count_member (codes "line") n)
+abbrev pub process_member : Option ℕ → List Token
+process_member None = []
+process_member (Some process) = count_member (codes "process") process
+
+-- which finding it is, and the process that it is of, where that has a number
+unfoldable pub head_tokens : Option ℕ → List ℕ → List Token
+head_tokens process kind =
+    begin_object ∷ (text_member (codes "finding") kind ++ process_member process)
+
+-- and the number of its line
+abbrev pub finding_tokens : Option ℕ → List ℕ → ℕ → List Token
+finding_tokens process kind n = head_tokens process kind ++ count_member (codes "line") n
 
 -- ---- places and locks
 

@@ -47,7 +47,7 @@ third_member t (Some at) = lock_member t (codes "third") at
 -- a report of what it found: the held lock, the one that was asked for, and an older one of its type
 abbrev pub report_tokens : Told → ℕ → List ℕ → LockAt → LockAt → Option LockAt → List Token
 report_tokens t n kind held asked older =
-    finding_tokens (codes "report") n ++ (text_member (codes "kind") kind
+    finding_tokens t.process (codes "report") n ++ (text_member (codes "kind") kind
     ++ (lock_member t (codes "held") held ++ (lock_member t (codes "asked") asked
     ++ third_member t older)))
 
@@ -61,9 +61,9 @@ abbrev pub duplicate_tokens : Told → ℕ → LockAt → LockAt → List Token
 duplicate_tokens t n held asked =
     report_tokens t n (codes "duplicate") held asked None ++ end_object ∷ []
 
-abbrev pub exhausted_tokens : ℕ → List Token
-exhausted_tokens n =
-    finding_tokens (codes "report") n
+abbrev pub exhausted_tokens : Told → ℕ → List Token
+exhausted_tokens t n =
+    finding_tokens t.process (codes "report") n
     ++ (text_member (codes "kind") (codes "exhausted") ++ end_object ∷ [])
 
 -- the name of a type, by a lock of the recording; empty where that isn't known
@@ -79,14 +79,14 @@ misused_members t lock place =
 -- an error in the use of a lock: who made it, and where
 abbrev pub error_tokens : Told → ℕ → Misuse → ℕ → ℕ → ℕ → List Token
 error_tokens t n what seat lock place =
-    finding_tokens (codes "error") n ++ (text_member (codes "what") (misuse_text what)
+    finding_tokens t.process (codes "error") n ++ (text_member (codes "what") (misuse_text what)
     ++ (count_member (codes "seat") seat ++ (count_member (codes "thread") (thread_of t seat)
     ++ (misused_members t lock place ++ end_object ∷ []))))
 
 -- an order that was learnt
 abbrev pub order_tokens : Told → ℕ → TypeNo × TypeNo → List Token
 order_tokens t n pair =
-    finding_tokens (codes "order") n ++ (order_members t pair.0.0 pair.1.0 ++ end_object ∷ [])
+    finding_tokens t.process (codes "order") n ++ (order_members t pair.0.0 pair.1.0 ++ end_object ∷ [])
 
 abbrev pub order_line : Told → ℕ → TypeNo × TypeNo → List ℕ
 order_line t n pair = line_text (order_tokens t n pair)
@@ -96,7 +96,7 @@ abbrev pub reply_text : Told → ℕ → Reply → List ℕ
 reply_text t n (Reversal c) =
     line_text (reversal_tokens t n (heading_text c.heading) c.held c.asked c.older)
 reply_text t n (Duplicate d) = line_text (duplicate_tokens t n d.last d.asked)
-reply_text t n Exhausted = line_text (exhausted_tokens n)
+reply_text t n Exhausted = line_text (exhausted_tokens t n)
 reply_text t n (Adopted parent child) = order_line t n (parent, child)
 reply_text t n (AdoptedAll pairs) = flat_map (order_line t n) pairs
 reply_text t n _ = []

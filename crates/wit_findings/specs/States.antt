@@ -4,7 +4,7 @@ use Rattle.std.specs.Prelude.{◌≡◌, ℕ, List, [], ◌∷◌, ◌++◌, Opt
 use Rattle.std.specs.Prelude.{◌&&◌, ◌==◌}
 use Rattle.std.specs.Fmt.{decimal}
 use Rattle.std.specs.List.{flat_map, range_with_len}
-use Rattle.json.specs.Token.{Token, begin_object, end_object, begin_array, end_array, key, number}
+use Rattle.json.specs.Token.{Token, end_object, begin_array, end_array, key, number}
 use Rattle.json.specs.Token.{boolean}
 use Rattle.wit_model.specs.declared.calls.Request.{Request}
 use Rattle.wit_model.specs.declared.locks.Instance.{Instance}
@@ -15,16 +15,17 @@ use Rattle.wit_model.specs.Rules.Circles.{TellsCircle, Waits}
 use Rattle.wit_model.specs.Rules.State.{seat_at, state_of}
 use Rattle.wit_model.specs.Trace.Views.{mode_words}
 use Rattle.wit_state.specs.Clean.{is_clean_story}
-use Rattle.wit_findings.specs.Objects.{count_member, line_text, lock_member, text_member}
+use Rattle.wit_findings.specs.Objects.{count_member, head_tokens, line_text, lock_member}
+use Rattle.wit_findings.specs.Objects.{text_member}
 use Rattle.wit_findings.specs.Told.{Told, thread_of}
 
 -- a seat and its thread hold, or ask for, a lock
 abbrev pub seat_tokens : Told → List ℕ → ℕ → LockNo → Mode → Site → List Token
 seat_tokens t kind seat lock mode site =
-    begin_object ∷ (text_member (codes "finding") kind ++ (count_member (codes "seat") seat
+    head_tokens t.process kind ++ (count_member (codes "seat") seat
     ++ (count_member (codes "thread") (thread_of t seat)
     ++ (text_member (codes "mode") (mode_words mode)
-    ++ (lock_member t (codes "lock") (record { lock = lock; site = site }) ++ end_object ∷ [])))))
+    ++ (lock_member t (codes "lock") (record { lock = lock; site = site }) ++ end_object ∷ []))))
 
 abbrev pub held_line : Told → ℕ → Instance → List ℕ
 held_line t seat held =
@@ -49,17 +50,16 @@ seat_values [] = []
 seat_values (seat ∷ seats) = number (decimal seat) ∷ seat_values seats
 
 -- seats of which each waits for the next, and the last for the first
-abbrev pub circle_text : Option (List ℕ) → List ℕ
-circle_text None = []
-circle_text (Some seats) =
-    line_text (begin_object ∷ (text_member (codes "finding") (codes "circle")
-    ++ (key (codes "seats") ∷ begin_array ∷ (seat_values seats
-    ++ end_array ∷ end_object ∷ []))))
+abbrev pub circle_text : Option ℕ → Option (List ℕ) → List ℕ
+circle_text process None = []
+circle_text process (Some seats) =
+    line_text (head_tokens process (codes "circle")
+    ++ (key (codes "seats") ∷ begin_array ∷ (seat_values seats ++ end_array ∷ end_object ∷ [])))
 
-abbrev pub clean_line : Bool → List ℕ
-clean_line clean =
-    line_text (begin_object ∷ (text_member (codes "finding") (codes "clean")
-    ++ key (codes "clean") ∷ boolean clean ∷ end_object ∷ []))
+abbrev pub clean_line : Option ℕ → Bool → List ℕ
+clean_line process clean =
+    line_text (head_tokens process (codes "clean")
+    ++ key (codes "clean") ∷ boolean clean ∷ end_object ∷ [])
 
 -- a bad line may have been a call, of which the log knows nothing
 unfoldable pub is_clean_told : Told → Bool
@@ -67,7 +67,7 @@ is_clean_told t = is_clean_story t.story && (t.bads == 0)
 
 abbrev pub state_text : Told → Option (List ℕ) → List ℕ
 state_text t seats =
-    seats_text t ++ (circle_text seats ++ clean_line (is_clean_told t))
+    seats_text t ++ (circle_text t.process seats ++ clean_line t.process (is_clean_told t))
 
 -- what is told of a moment. There may be more circles than one: any may be told that starts with its
 -- least seat

@@ -43,16 +43,16 @@ nothing t = record { told = t; text = [] }
 
 -- ---- a bad line
 
-abbrev pub bad_line : ℕ → Cause → List ℕ
-bad_line n cause =
-    line_text (finding_tokens (codes "bad") n
+abbrev pub bad_line : Told → ℕ → Cause → List ℕ
+bad_line t n cause =
+    line_text (finding_tokens t.process (codes "bad") n
     ++ (text_member (codes "why") (cause_text cause) ++ end_object ∷ []))
 
 -- it is told, and counted
 abbrev pub refused : Told → ℕ → Cause → After
 refused t n cause = record {
   told = record t { bads = t.bads + 1; bad = option_or t.bad (Some (n, cause)) };
-  text = bad_line n cause;
+  text = bad_line t n cause;
 }
 
 -- ---- a call of the verifier
@@ -160,11 +160,12 @@ seats t n seat thread =
 
 -- ---- a line
 
--- what becomes of a line: it is told and the reading goes on; the moment is shown; or the reading
--- ends, once it was told
+-- what becomes of a line: it is told and the reading goes on; the moment is shown; the lines after it
+-- are of the process with this number; or the reading ends, once it was told
 pub data Outcome : Type 0 where
   Tells : After → Outcome
   Shows : Outcome
+  Turns : ℕ → Outcome
   Stops : After → Outcome
 
 abbrev pub begins : Told → ℕ → ℕ → Outcome
@@ -189,7 +190,13 @@ outcome_of t n (said.Unlock seat lock mode) =
 outcome_of t n (said.Error what seat lock place) =
     Tells (record { told = t; text = line_text (error_tokens t n what seat.0 lock.0 place) })
 outcome_of t n said.Look = Shows
+outcome_of t n (said.Process process) = Turns process
 outcome_of t n said.Passed = Tells (nothing t)
+
+-- the process that the lines after this one are of
+abbrev pub turns_to : Line → Option ℕ
+turns_to (said.Process process) = Some process
+turns_to line = None
 
 -- a line that says nothing: where it was to make a lock, it counts one
 abbrev pub unread : Told → ℕ → List ℕ → After

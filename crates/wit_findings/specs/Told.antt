@@ -11,10 +11,11 @@ use Rattle.wit_model.specs.Rules.State.{Start, Story, fresh}
 use Rattle.wit_findings.specs.declared.recording.Recording.{Recording}
 use Rattle.wit_findings.specs.declared.spots.Spot.{Spot}
 
--- the verifier's story; the types' names by their numbers; for each lock of the recording its number
+-- the number of the process, where it has one; the verifier's story; the types' names by their numbers; for each lock of the recording its number
 -- in the story, 0 where it is none there, and the other way round; for each seat the thread that has
 -- it, 0 where none is known; where locks were asked for; how many lines were bad, and the first
 pub record Told : Type 0 where
+  pub process : Option ℕ
   pub story : Story
   pub names : List (ℕ × List ℕ)
   pub locks : List ℕ
@@ -26,6 +27,7 @@ pub record Told : Type 0 where
 
 abbrev pub told : Recording → Told
 told r = record {
+  process = r.process;
   story = r.verifier;
   names = r.names.items;
   locks = r.locks.items;
@@ -49,9 +51,10 @@ start = record {
 unfoldable pub no_threads : List ℕ
 no_threads = replicate MOST_SEATS 0
 
--- places are told by their numbers among these, as lines of one file
-abbrev pub nothing_told : Told
-nothing_told = record {
+-- nothing of a process. Places are told by their numbers among these, as lines of one file
+abbrev pub nothing_of : Option ℕ → Told
+nothing_of process = record {
+  process = process;
   story = record (fresh start) { files = codes "@" ∷ [] };
   names = [];
   locks = [];

@@ -32,7 +32,7 @@ pub fn put_error(
     ensures { OnOk result (text.new.items ≡ text.old.items
         ++ line_text (error_tokens (told known.now) line what seat.0 lock.0 place)) }
 {
-    let mut json = finding(alloc, "error", line)?;
+    let mut json = finding(alloc, known.process, "error", line)?;
     put_text(&mut json, "what", misuse_text(what))?;
     put_count(&mut json, "seat", u64::from(seat.0))?;
     put_count(&mut json, "thread", u64::from(known.thread_of(seat)))?;

@@ -1,27 +1,31 @@
 //! Findings, as the lines of a recording come.
 
-ghost use Rattle.std.specs.Prelude.{◌≡◌, ◌++◌, Err, IfOk, OnErr, OnOk};
+ghost use Rattle.std.specs.Prelude.{◌≡◌, ◌++◌, Err, IfOk, OnErr, OnOk, map};
 ghost use Rattle.wit_stream.specs.Stream.{ReadsToEnd, WritesFront, WritesLines, WritesOutput};
 ghost use Rattle.wit_stream.specs.declared.summary.ReplayError.TheVariants as ReplayError;
 ghost use Rattle.wit_findings.specs.Existing.{some_allowed};
-ghost use Rattle.wit_findings.specs.Findings.{Ends, Finds, FindsFrom, StepsBy, allowed, end_line};
-ghost use Rattle.wit_findings.specs.Findings.{summary_of};
-ghost use Rattle.wit_findings.specs.Told.{nothing_told, told};
+ghost use Rattle.wit_findings.specs.Findings.{Adds, AreEnds, Ends, Finds, FindsFrom, IsEnd, StepsBy};
+ghost use Rattle.wit_findings.specs.Findings.{allowed, end_line, summed, sums};
+ghost use Rattle.wit_findings.specs.Runs.{bads, known, nothing_told};
+ghost use Rattle.wit_findings.specs.Told.{told};
 
-use crate::objects::{put_count, put_line, put_text};
+use crate::objects::{head, put_count, put_line};
+use crate::processes::{Processes, place_of};
 use crate::recording::Recording;
 use crate::states::state_text;
-use json::Writer;
 use std::alloc::{AllocError, Global};
 use std::io::{BufRead, Write};
 use wit_model::{Boxed, Cause};
 use wit_stream::{Failures, Machine, Pace, ReplayError, Step, Summary, run};
 
-/// Reads a recording, and writes what it shows, a JSON object a line: each report, each order that was
+/// Reads recordings, and writes what they show, a JSON object a line: each report, each order that was
 /// learnt, and each bad line with its number and cause; where a line asks for it, and after the last
 /// one, what seats hold and ask for, a circle of those that wait for one another, and whether the log
 /// is clean; and then what was counted. What is told of a line is written and flushed before the reader
 /// is looked at again.
+///
+/// A line may say which process those after it are of. Each is judged by itself, and what is told of it
+/// has its number; at the end they are told by their numbers.
 ///
 /// A bad line changes nothing of what is known. One that is too long ends the reading, as does a
 /// recording of another version.
@@ -46,7 +50,7 @@ pub fn findings<R: BufRead, W: Write>(
         (R.remaining input.old) (R.remaining input.new)
         (W.contents output.old) (W.contents output.new) }
 {
-    let mut machine = Recording::new(alloc)?;
+    let mut machine = Processes::new(alloc)?;
     run(
         alloc,
         &mut Failures::new(),
@@ -57,57 +61,99 @@ pub fn findings<R: BufRead, W: Write>(
     )
 }
 
-impl Recording {
+impl Processes {
     // The step after a line that was entered. The last text is put behind this one.
     fn step(&self, alloc: Global, goes: bool, text: &mut Vec<u8>) -> Result<Step, AllocError>
-        ensures { IfOk result (λ step. StepsBy (told self.now) text.old.items goes
+        ensures { IfOk result (λ step. StepsBy (known self.now) text.old.items goes
             text.new.items step) }
     {
         if goes {
             return Ok(Step::Goes);
         }
-        let summary = self.put_end(alloc, text)?;
+        let summary = self.put_ends(alloc, text)?;
         Ok(Step::Ends(Boxed::new(alloc, summary)?))
     }
 
     // Puts what is known at the end behind the text. What it sums up.
-    fn put_end(&self, alloc: Global, text: &mut Vec<u8>) -> Result<Summary, AllocError>
-        ensures { IfOk result (λ summary. Ends (record { told = told self.now; text = text.old.items })
+    fn put_ends(&self, alloc: Global, text: &mut Vec<u8>) -> Result<Summary, AllocError>
+        ensures { IfOk result (λ summary. Ends (known self.now) text.old.items
             text.new.items summary) }
     {
-        let state = state_text(alloc, self)?;
-        text.extend_from_slice(&state)?;
-        self.put_counts(alloc, text)?;
-        Ok(self.summary())
+        let place = place_of(&self.others, self.current.process);
+        let (before, after) = self.others.split_at(place);
+        put_each(text, alloc, before)?;
+        put_end(text, alloc, &self.current)?;
+        put_each(text, alloc, after)?;
+        Ok(sum(before, sum_with(&self.current, sum(after, NOTHING))))
     }
+}
 
-    // Puts what was counted behind the text.
-    fn put_counts(&self, alloc: Global, text: &mut Vec<u8>) -> Result<(), AllocError>
-        ensures { OnOk result (text.new.items ≡ text.old.items ++ end_line (told self.now)) }
-    {
-        let mut json = Writer::new(Vec::new(alloc));
-        json.begin_object()?;
-        put_text(&mut json, "finding", "end")?;
-        put_count(&mut json, "calls", self.verifier.history().len() as u64)?;
-        put_count(&mut json, "reports", u64::from(self.verifier.reports()))?;
-        put_count(&mut json, "bad", self.bads)?;
-        json.end_object()?;
-        put_line(text, json)
-    }
+const NOTHING: Summary = Summary {
+    calls: 0,
+    reports: 0,
+    circle: false,
+    bad: None,
+};
 
-    fn summary(&self) -> Summary
-        ensures { result ≡ summary_of (told self.now) }
-    {
-        Summary {
-            calls: self.verifier.history().len() as u64,
-            reports: u64::from(self.verifier.reports()),
-            circle: false,
-            bad: self.bad,
+// Puts what is known at the end of each of these behind the text.
+fn put_each(text: &mut Vec<u8>, alloc: Global, all: &[Recording]) -> Result<(), AllocError>
+    ensures { OnOk result (Adds (AreEnds (map told all.now)) text.old.items text.new.items) }
+{
+    match all {
+        [] => Ok(()),
+        [first, others @ ..] => {
+            put_end(text, alloc, first)?;
+            put_each(text, alloc, others)
         }
     }
 }
 
-impl Machine for Recording {
+fn put_end(text: &mut Vec<u8>, alloc: Global, known: &Recording) -> Result<(), AllocError>
+    ensures { OnOk result (Adds (IsEnd (told known.now)) text.old.items text.new.items) }
+{
+    let state = state_text(alloc, known)?;
+    text.extend_from_slice(&state)?;
+    put_counts(text, alloc, known)
+}
+
+// Puts what was counted behind the text.
+fn put_counts(text: &mut Vec<u8>, alloc: Global, known: &Recording) -> Result<(), AllocError>
+    ensures { OnOk result (text.new.items ≡ text.old.items ++ end_line (told known.now)) }
+{
+    let mut json = head(alloc, known.process, "end")?;
+    put_count(&mut json, "calls", known.verifier.history().len() as u64)?;
+    put_count(&mut json, "reports", u64::from(known.verifier.reports()))?;
+    put_count(&mut json, "bad", known.bads)?;
+    json.end_object()?;
+    put_line(text, json)
+}
+
+// What these sum up, and those after them, which sum up this.
+fn sum(all: &[Recording], after: Summary) -> Summary
+    ensures { result ≡ sums (map told all.now) after }
+{
+    match all {
+        [] => after,
+        [first, others @ ..] => sum_with(first, sum(others, after)),
+    }
+}
+
+fn sum_with(known: &Recording, after: Summary) -> Summary
+    ensures { result ≡ summed (told known.now) after }
+{
+    Summary {
+        calls: after
+            .calls
+            .saturating_add(known.verifier.history().len() as u64),
+        reports: after
+            .reports
+            .saturating_add(u64::from(known.verifier.reports())),
+        circle: false,
+        bad: known.bad.or(after.bad),
+    }
+}
+
+impl Machine for Processes {
     // There is one way to show it.
     type View = ();
 
@@ -115,7 +161,7 @@ impl Machine for Recording {
 
     ghost allows = { λ by. allowed };
 
-    ghost reports = { λ m. m.bads };
+    ghost reports = { λ m. bads m };
 
     #[tactic(auto, using(crate::proofs::Following::follows))]
     fn line(
@@ -138,14 +184,14 @@ impl Machine for Recording {
         cause: Cause,
     ) -> Result<(Vec<u8>, Summary), AllocError> {
         let mut text = Vec::new(alloc);
-        self.refuse(alloc, number, cause, &mut text)?;
-        let summary = self.put_end(alloc, &mut text)?;
+        self.current.refuse(alloc, number, cause, &mut text)?;
+        let summary = self.put_ends(alloc, &mut text)?;
         Ok((text, summary))
     }
 
     fn end(&mut self, alloc: Global, _number: u64) -> Result<(Vec<u8>, Summary), AllocError> {
         let mut text = Vec::new(alloc);
-        let summary = self.put_end(alloc, &mut text)?;
+        let summary = self.put_ends(alloc, &mut text)?;
         Ok((text, summary))
     }
 

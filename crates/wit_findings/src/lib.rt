@@ -5,6 +5,7 @@
 mod errors;
 mod finding;
 mod objects;
+mod processes;
 mod recording;
 mod reports;
 mod spots;

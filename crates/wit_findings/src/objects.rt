@@ -3,7 +3,8 @@
 ghost use Rattle.std.specs.Prelude.{◌≡◌, ◌∷◌, ◌++◌, [], IfOk, OnOk, codes};
 ghost use Rattle.json.specs.Token.{key};
 ghost use Rattle.wit_findings.specs.Objects.{Adds, class_of, class_text, count_member, finding_tokens};
-ghost use Rattle.wit_findings.specs.Objects.{line_text, lock_member, lock_value, order_members};
+ghost use Rattle.wit_findings.specs.Objects.{head_tokens, line_text, lock_member, lock_value};
+ghost use Rattle.wit_findings.specs.Objects.{order_members, process_member};
 ghost use Rattle.wit_findings.specs.Objects.{origin_value, site_value, spot_tokens, text_member};
 ghost use Rattle.wit_findings.specs.Objects.{type_number, type_text};
 ghost use Rattle.wit_findings.specs.Told.{told};
@@ -30,18 +31,45 @@ pub fn put_line(text: &mut Vec<u8>, json: Writer) -> Result<(), AllocError>
     Ok(())
 }
 
-/// A finding that begins: which one it is, and the number of its line.
+/// A finding that begins: which one it is, and the process that it is of, where that has a number.
 ///
 /// # Errors
 /// Want of memory alone.
-#[tactic(auto, unfolding(crate::specs::Objects::finding_tokens))]
-pub fn finding(alloc: Global, kind: &str, line: u64) -> Result<Writer, AllocError>
+#[tactic(auto, unfolding(crate::specs::Objects::head_tokens))]
+pub fn head(alloc: Global, process: Option<u32>, kind: &str) -> Result<Writer, AllocError>
     ensures before { IfOk result (λ w. w.before ≡ []) }
-    ensures tokens { IfOk result (λ w. w.tokens ≡ finding_tokens kind.now line) }
+    ensures tokens { IfOk result (λ w. w.tokens ≡ head_tokens process kind.now) }
 {
     let mut json = Writer::new(Vec::new(alloc));
     json.begin_object()?;
     put_text(&mut json, "finding", kind)?;
+    put_process(&mut json, process)?;
+    Ok(json)
+}
+
+fn put_process(json: &mut Writer, process: Option<u32>) -> Result<(), AllocError>
+    ensures { Adds result json.old json.new (process_member process) }
+{
+    match process {
+        Some(number) => put_count(json, "process", u64::from(number)),
+        None => Ok(()),
+    }
+}
+
+/// A finding that begins, of the line with this number.
+///
+/// # Errors
+/// Want of memory alone.
+pub fn finding(
+    alloc: Global,
+    process: Option<u32>,
+    kind: &str,
+    line: u64,
+) -> Result<Writer, AllocError>
+    ensures before { IfOk result (λ w. w.before ≡ []) }
+    ensures tokens { IfOk result (λ w. w.tokens ≡ finding_tokens process kind.now line) }
+{
+    let mut json = head(alloc, process, kind)?;
     put_count(&mut json, "line", line)?;
     Ok(json)
 }

@@ -1,10 +1,10 @@
 //! What is known of a recording.
 
-ghost use Rattle.std.specs.Prelude.{◌≡◌, IfOk};
+ghost use Rattle.std.specs.Prelude.{◌≡◌, None, IfOk};
 ghost use Rattle.std.specs.Option.{option_copied};
 ghost use Rattle.wit_model.specs.Rules.Numbers.{with_number};
 ghost use Rattle.wit_model.specs.declared.locks.LockNo.{LockNo};
-ghost use Rattle.wit_findings.specs.Told.{lock_number, named_type, no_threads, nothing_told};
+ghost use Rattle.wit_findings.specs.Told.{lock_number, named_type, no_threads, nothing_of};
 ghost use Rattle.wit_findings.specs.Told.{number_of};
 ghost use Rattle.wit_findings.specs.Told.{thread_of, told};
 
@@ -13,9 +13,11 @@ use std::alloc::{AllocError, Global};
 use wit_core::Verifier;
 use wit_model::{Cause, Limits, LockNo, Name, SeatNo};
 
-/// What is known of a recording so far.
+/// What is known of the recording of a process so far.
 #[derive(Drop)]
 pub struct Recording {
+    /// The number of the process, where it has one.
+    pub process: Option<u32>,
     pub verifier: Verifier,
     /// The names of types, by their numbers.
     pub names: Vec<(u32, Name)>,
@@ -33,14 +35,15 @@ pub struct Recording {
 }
 
 impl Recording {
-    /// One of which nothing is known.
+    /// One of this process of which nothing is known.
     ///
     /// # Errors
     /// Want of memory alone.
-    pub fn new(alloc: Global) -> Result<Recording, AllocError>
-        ensures { IfOk result (λ r. told r ≡ nothing_told) }
+    pub fn new(alloc: Global, process: Option<u32>) -> Result<Recording, AllocError>
+        ensures { IfOk result (λ r. told r ≡ nothing_of process) }
     {
         Ok(Recording {
+            process,
             verifier: new_verifier(alloc)?,
             names: Vec::new(alloc),
             locks: Vec::new(alloc),
@@ -110,7 +113,7 @@ fn no_threads(alloc: Global) -> Result<Vec<u32>, AllocError>
 }
 
 fn new_verifier(alloc: Global) -> Result<Verifier, AllocError>
-    ensures { IfOk result (λ v. v ≡ nothing_told.story) }
+    ensures { IfOk result (λ v. v ≡ (nothing_of None).story) }
 {
     let Some(limits) = Limits::new(
         Limits::MOST_SEATS,

@@ -34,7 +34,7 @@ pub fn put_reply(
     match reply {
         Reply::Reversal(conflict) => put_reversal(text, alloc, known, line, conflict.get()),
         Reply::Duplicate(doubling) => put_duplicate(text, alloc, known, line, doubling.get()),
-        Reply::Exhausted => put_exhausted(text, alloc, line),
+        Reply::Exhausted => put_exhausted(text, alloc, known, line),
         Reply::Adopted(parent, child) => {
             put_new_order(text, alloc, known, line, (*parent, *child))
         }
@@ -104,10 +104,16 @@ fn put_duplicate(
     put_line(text, json)
 }
 
-fn put_exhausted(text: &mut Vec<u8>, alloc: Global, line: u64) -> Result<(), AllocError>
-    ensures { OnOk result (text.new.items ≡ text.old.items ++ line_text (exhausted_tokens line)) }
+fn put_exhausted(
+    text: &mut Vec<u8>,
+    alloc: Global,
+    known: &Recording,
+    line: u64,
+) -> Result<(), AllocError>
+    ensures { OnOk result (text.new.items ≡ text.old.items
+        ++ line_text (exhausted_tokens (told known.now) line)) }
 {
-    let mut json = finding(alloc, "report", line)?;
+    let mut json = finding(alloc, known.process, "report", line)?;
     put_text(&mut json, "kind", "exhausted")?;
     json.end_object()?;
     put_line(text, json)
@@ -127,7 +133,7 @@ fn report(
     ensures tokens { IfOk result (λ w. w.tokens
         ≡ report_tokens (told known.now) line kind.now held asked older) }
 {
-    let mut json = finding(alloc, "report", line)?;
+    let mut json = finding(alloc, known.process, "report", line)?;
     put_text(&mut json, "kind", kind)?;
     put_lock(&mut json, known, "held", held)?;
     put_lock(&mut json, known, "asked", asked)?;
@@ -223,7 +229,7 @@ fn put_new_order(
     ensures { OnOk result (text.new.items ≡ text.old.items
         ++ order_line (told known.now) line order) }
 {
-    let mut json = finding(alloc, "order", line)?;
+    let mut json = finding(alloc, known.process, "order", line)?;
     put_order(&mut json, known, order.0, order.1)?;
     json.end_object()?;
     put_line(text, json)

@@ -12,7 +12,7 @@ ghost use Rattle.wit_findings.specs.States.{is_clean_told};
 ghost use Rattle.wit_findings.specs.States.{seat_text, seat_tokens, seat_values, seats_text};
 ghost use Rattle.wit_findings.specs.Told.{told};
 
-use crate::objects::{put_count, put_line, put_lock, put_text};
+use crate::objects::{head, put_count, put_line, put_lock, put_text};
 use crate::recording::Recording;
 use json::Writer;
 use std::alloc::{AllocError, Global};
@@ -33,8 +33,8 @@ pub fn state_text(alloc: Global, known: &Recording) -> Result<Vec<u8>, AllocErro
     };
     let mut text = Vec::new(alloc);
     put_seats(&mut text, alloc, known)?;
-    put_circle(&mut text, alloc, circle.as_deref())?;
-    put_clean(&mut text, alloc, is_clean(known))?;
+    put_circle(&mut text, alloc, known.process, circle.as_deref())?;
+    put_clean(&mut text, alloc, known.process, is_clean(known))?;
     Ok(text)
 }
 
@@ -112,9 +112,7 @@ fn put_lock_of_seat(
     ensures { OnOk result (text.new.items ≡ text.old.items
         ++ line_text (seat_tokens (told known.now) kind.now seat.0 lock mode site)) }
 {
-    let mut json = Writer::new(Vec::new(alloc));
-    json.begin_object()?;
-    put_text(&mut json, "finding", kind)?;
+    let mut json = head(alloc, known.process, kind)?;
     put_count(&mut json, "seat", u64::from(seat.0))?;
     put_count(&mut json, "thread", u64::from(known.thread_of(seat)))?;
     put_text(&mut json, "mode", mode_words(mode))?;
@@ -135,17 +133,16 @@ fn mode_words(mode: Mode) -> &'static str
 fn put_circle(
     text: &mut Vec<u8>,
     alloc: Global,
+    process: Option<u32>,
     circle: Option<&[SeatNo]>,
 ) -> Result<(), AllocError>
     ensures { OnOk result (text.new.items ≡ text.old.items
-        ++ circle_text (option_map seat_numbers (option_copied circle.entry))) }
+        ++ circle_text process (option_map seat_numbers (option_copied circle.entry))) }
 {
     let Some(seats) = circle else {
         return Ok(());
     };
-    let mut json = Writer::new(Vec::new(alloc));
-    json.begin_object()?;
-    put_text(&mut json, "finding", "circle")?;
+    let mut json = head(alloc, process, "circle")?;
     json.key("seats")?;
     json.begin_array()?;
     put_seat_numbers(&mut json, seats)?;
@@ -174,12 +171,15 @@ fn is_clean(known: &Recording) -> bool
     is_clean_so_far(&known.verifier) && known.bads == 0
 }
 
-fn put_clean(text: &mut Vec<u8>, alloc: Global, clean: bool) -> Result<(), AllocError>
-    ensures { OnOk result (text.new.items ≡ text.old.items ++ clean_line clean) }
+fn put_clean(
+    text: &mut Vec<u8>,
+    alloc: Global,
+    process: Option<u32>,
+    clean: bool,
+) -> Result<(), AllocError>
+    ensures { OnOk result (text.new.items ≡ text.old.items ++ clean_line process clean) }
 {
-    let mut json = Writer::new(Vec::new(alloc));
-    json.begin_object()?;
-    put_text(&mut json, "finding", "clean")?;
+    let mut json = head(alloc, process, "clean")?;
     json.key("clean")?;
     json.boolean(clean)?;
     json.end_object()?;

@@ -20,40 +20,15 @@ use wit_model::{
     Boxed, Call, Cause, Class, Fault, FileNo, LockFlags, Name, NewLock, OpFlags, Reply, Request,
     SeatNo, Site,
 };
-use wit_recorded::{Asked, Line, LineError, VERSION, makes_lock, recorded_line};
+use wit_recorded::{Asked, Line, VERSION, makes_lock};
 
 impl Recording {
-    /// Enters a line with its number, and puts what is told of it into the text. Whether the reading
-    /// goes on.
+    /// Enters a line with this number that says this, and puts what is told of it into the text. Whether
+    /// the reading goes on.
     ///
     /// # Errors
     /// Want of memory alone.
-    pub fn enter(
-        &mut self,
-        alloc: Global,
-        number: u64,
-        bytes: &[u8],
-        text: &mut Vec<u8>,
-    ) -> Result<bool, AllocError>
-        requires room { self.old.bads < number }
-        requires empty { text.old.items ≡ [] }
-        ensures enters { IfOk result (λ goes. Enters (told self.old)
-            (outcome (told self.old) number bytes.now (line_of bytes.now))
-            (told self.new) text.new.items goes) }
-        ensures counted { OnOk result (self.new.bads ≤ self.old.bads + 1) }
-    {
-        match recorded_line(alloc, bytes) {
-            Ok(line) => self.follow(alloc, number, line, text),
-            Err(LineError::Bad(_)) => {
-                self.pass_over(alloc, number, bytes, text)?;
-                Ok(true)
-            }
-            Err(LineError::Memory) => Err(AllocError),
-        }
-    }
-
-    // Enters a line that says this.
-    fn follow(
+    pub fn follow(
         &mut self,
         alloc: Global,
         number: u64,
@@ -96,13 +71,16 @@ impl Recording {
                     return Ok(false);
                 }
             }
-            Line::Passed => {}
+            Line::Process(_) | Line::Passed => {}
         }
         Ok(true)
     }
 
-    // A line that says nothing. Where it was to make a lock, it counts one.
-    fn pass_over(
+    /// Tells a line that says nothing. Where it was to make a lock, it counts one.
+    ///
+    /// # Errors
+    /// Want of memory alone.
+    pub fn pass_over(
         &mut self,
         alloc: Global,
         number: u64,
@@ -142,7 +120,7 @@ impl Recording {
         if self.bad.is_none() {
             self.bad = Some((number, cause));
         }
-        let mut json = finding(alloc, "bad", number)?;
+        let mut json = finding(alloc, self.process, "bad", number)?;
         put_text(&mut json, "why", cause_text(cause))?;
         json.end_object()?;
         put_line(text, json)

@@ -1,16 +1,18 @@
 -- What is kept.
 use Rattle.std.proofs.Common.{◌≡◌, ℕ, ◌+◌, ◌-◌, ◌^◌, ◌<◌, ◌≤◌, List, [], ◌∷◌, ◌++◌, length, take}
 use Rattle.std.proofs.Common.{set, get_or, None, Some, slice_get, refl, ap, sym, ◌∙◌, subst, arith}
+use Rattle.std.specs.List.{range_with_len}
 use Rattle.std.proofs.lemmas.List.{length-map, length-append, get_or-map}
+use Rattle.std.proofs.lemmas.List.FromFn.{length-range_with_len}
 use Rattle.std.proofs.lemmas.Option.{slice_get_within, slice_get_past, get_or_from_slice_get}
 use Rattle.wit_model.specs.declared.locks.Instance.{Instance}
 use Rattle.wit_model.specs.declared.chunks.Spot.{Spot}
 use Rattle.wit_model.specs.declared.sizes.TheConstants.Limits.{MOST_CHUNKS}
 use Rattle.wit_model.specs.Rules.Groups.{flat, replaced_in}
 use Rattle.wit_model.specs.Rules.Chunks.{Chunks, IsList, IsSpot, IsPlaced, StandsIn, groups_of}
-use Rattle.wit_model.specs.Rules.Chunks.{group_of, set_groups}
+use Rattle.wit_model.specs.Rules.Chunks.{group_of, set_groups, times}
 use Rattle.wit_model.specs.Rules.Rows.{row, groups_at}
-use Rattle.wit_model.proofs.Rows.Placing.{IsTaken, taken}
+use Rattle.wit_model.proofs.Rows.Placing.{IsTaken, taken, times-append}
 use Rattle.wit_model.proofs.Rows.Settled.{replaced}
 use Rattle.wit_model.proofs.Rows.Shown.{Leaves, list-within, groups-shown, placed-shown}
 use Rattle.wit_model.proofs.Rows.Shown.{list-short, row-at, chain-fits}
@@ -20,22 +22,40 @@ use Rattle.wit_pool.specs.declared.chain.Chain.{Chain}
 use Rattle.wit_pool.specs.declared.pool.Pool.TheInside.{Inside}
 use Rattle.wit_pool.specs.Chunks.{chunk_at, content, next_of, Leads, IsAt}
 use Rattle.wit_pool.specs.Chains.{places, chain_chunks, IsChain, IsLinked, Stands}
-use Rattle.wit_pool.specs.Kept.{rows_of, lists_of, free_of, chunks_in, AreKept}
+use Rattle.wit_pool.specs.Kept.{rows_of, lists_of, spare_of, free_of, chunks_in, AreKept}
 use Rattle.wit_pool.proofs.Links.{Stood, stood, first, none-left, length-places}
 use Rattle.wit_pool.proofs.Standing as Standing
 
 module _ {A : Type 0} (v : Inside A) (shows : Chunks) (is : chunks_in v ≡ shows)
     (kept : AreKept v) where
   pub stands : Stands v.cells.at v.cells.slots v.chains.items v.free (rows_of v)
-      (lists_of v) (free_of v)
+      (lists_of v) (spare_of v)
   stands =
       record { rows = refl; lists = refl; unused = refl; linked = kept.linked; spare = kept.spare }
 
   pub placed : IsPlaced shows
   placed = subst IsPlaced is (placed-shown (rows_of v) (lists_of v) (free_of v) kept.settled.placed)
 
-  pub count-free : length (free_of v) ≡ v.free.count
-  count-free = length-places v.cells.at v.cells.slots v.free.count v.free.head kept.spare
+  pub count-free : length (free_of v) ≡ v.unmade + v.free.count
+  count-free =
+      omega (
+        arith,
+        length-append (range_with_len 0 v.unmade) (spare_of v),
+        length-range_with_len 0 v.unmade,
+        length-places v.cells.at v.cells.slots v.free.count v.free.head kept.spare,
+      )
+
+  -- what isn't free isn't linked as a free one
+  pub not-spare : (p : ℕ) → times p (free_of v) ≡ 0 → times p (spare_of v) ≡ 0
+  not-spare p none =
+      omega (arith, none, times-append p (range_with_len 0 v.unmade) (spare_of v))
+
+  pub few-unmade : v.unmade ≤ MOST_CHUNKS
+  few-unmade = omega (arith, count-free, kept.settled.placed.all, kept.settled.few)
+
+  pub unmade-within : v.unmade ≤ length v.cells.slots
+  unmade-within =
+      omega (arith, count-free, kept.settled.placed.all, length-map v.cells.slots content)
 
   pub few-free : v.free.count ≤ MOST_CHUNKS
   few-free = omega (arith, count-free, kept.settled.placed.all, kept.settled.few)
@@ -57,7 +77,7 @@ module _ {A : Type 0} (v : Inside A) (shows : Chunks) (is : chunks_in v ≡ show
         ≡ chain_chunks v.cells.slots (get_or v.chains.items (list - 1) d)
     list-is d =
         Standing.list-at v.cells.at v.cells.slots v.chains.items v.free (rows_of v) (lists_of v)
-        (free_of v) stands (list - 1) d in-chains
+        (spare_of v) stands (list - 1) d in-chains
 
     pub linked : (d : Chain) → IsLinked v.cells.at v.cells.slots
         (get_or v.chains.items (list - 1) d)

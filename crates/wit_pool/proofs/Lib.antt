@@ -1,7 +1,7 @@
-pub mod First
 pub mod Keeping
 pub mod Leaving
 pub mod Links
+pub mod Making
 pub mod Memory
 pub mod Pushing
 pub mod Removing

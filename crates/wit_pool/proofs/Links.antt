@@ -14,12 +14,13 @@ use Rattle.std.proofs.Math.Seq.{take-append_seam}
 use denote.RawPtr.{Ptr}
 use Rattle.circular_buffer.proofs.Memory.{filled_within}
 use Rattle.circular_buffer.proofs.Places.{slice_get-append_left, slice_get-last}
+use Rattle.wit_model.specs.declared.locks.Instance.{Instance}
 use Rattle.wit_model.specs.Rules.Chunks.{times}
 use Rattle.wit_model.proofs.Rows.Placing.{times-append, times-in}
 use Rattle.wit_pool.specs.declared.chunk.Next.{Next}
 use Rattle.wit_pool.specs.declared.chunk.Chunk.{Chunk}
-use Rattle.wit_pool.specs.Chunks.{chunk_at, next_of, IsAt, IsLed, HasChunkAt}
-use Rattle.wit_pool.specs.Chains.{places, IsChain}
+use Rattle.wit_pool.specs.Chunks.{chunk_at, next_of, IsAt, IsRegrouped, IsLed, HasChunkAt, AreBare}
+use Rattle.wit_pool.specs.Chains.{places, IsChain, Passes, IsFreed}
 
 -- so many chunks are linked from there on, and these are their places
 abbrev pub Runs : Ptr → List (Option Chunk) → ℕ → Option Next → List ℕ → Type 0
@@ -262,6 +263,41 @@ led-there at cs cs' q next led p there =
       | inl e ↦ (x, ap (chunk_at (set cs q (Some x))) e ∙ read-here at cs q x lt)
       | inr other ↦ (there.0, read-other at cs q x lt p other ∙ there.1)
     ])
+
+-- ---- the first places stay bare where a chunk is written over another one
+module _ (at : Ptr) (cs : List (Option Chunk)) (n : ℕ) (bare : AreBare cs n) where
+  pub bare-set : (p : ℕ) (was x : Chunk) → chunk_at cs p ≡ Some was
+      → AreBare (set cs p (Some x)) n
+  bare-set p was x there q lt = elim (cases_eq q p) [
+    | inl e ↦ absurd (true≢false
+        (sym (ap is_some (ap (chunk_at cs) e ∙ there)) ∙ ap is_some (bare q lt)))
+    | inr other ↦ read-other at cs p x (within cs p was there) q other ∙ bare q lt
+  ]
+
+  pub bare-regrouped : (cs' : List (Option Chunk)) (p : ℕ) (held : List Instance)
+      → IsRegrouped cs cs' p held → AreBare cs' n
+  bare-regrouped cs' p held put =
+      subst (λ ds. AreBare ds n) (sym put.now)
+      (bare-set p put.was (record { next = put.was.next; group = put.group }) put.there)
+
+  pub bare-led : (cs' : List (Option Chunk)) (p : ℕ) (next : Option Next) → IsLed cs cs' p next
+      → AreBare cs' n
+  bare-led cs' p next led =
+      subst (λ ds. AreBare ds n) (sym led.now)
+      (bare-set p led.was (record { next = next; group = led.was.group }) led.there)
+
+  bare-passed : (cs' : List (Option Chunk)) (newer next head head' : Option Next)
+      → Passes cs cs' newer next head head' → AreBare cs' n
+  bare-passed cs' None next head head' past = subst (λ ds. AreBare ds n) (sym past.0) bare
+  bare-passed cs' (Some q) next head head' past = bare-led cs' q.place next past.0
+
+pub bare-freed : (at : Ptr) (cs cs' : List (Option Chunk)) (n p : ℕ)
+    (newer head free head' : Option Next) → AreBare cs n
+    → IsFreed cs cs' p newer head free head' → AreBare cs' n
+bare-freed at cs cs' n p newer head free head' bare done =
+    bare-led at done.between n
+    (bare-passed at cs n bare done.between newer (next_of (chunk_at cs p)) head head' done.passed)
+    cs' p free done.freed
 
 -- a chain begins with a chunk that is there
 pub head-there : (at : Ptr) (cs : List (Option Chunk)) (n : ℕ) (h : Option Next) (l : Next)

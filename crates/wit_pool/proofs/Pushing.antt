@@ -4,7 +4,9 @@ use Rattle.std.proofs.Common.{◌∷◌, ◌++◌, length, set, get_or, None, So
 use Rattle.std.proofs.Common.{◌∙◌, subst, arith}
 use Rattle.std.specs.Prelude.{Option, IfSome}
 use Rattle.std.proofs.lemmas.Bool.{lt-ltb, le-ltb, cond-true, and_left, and_right, ne_eqb}
+use Rattle.std.specs.List.{range_with_len}
 use Rattle.std.proofs.lemmas.List.{length-append, get_or-map, set-get_or, nil_from_length}
+use Rattle.std.proofs.lemmas.List.{append_assoc}
 use Rattle.wit_model.specs.declared.locks.Instance.{Instance}
 use Rattle.wit_model.specs.Rules.Groups.{flat, opens}
 use Rattle.wit_model.specs.Rules.Chunks.{Chunks, IsList, is_refused, pushed, set_groups, groups_of}
@@ -12,7 +14,7 @@ use Rattle.wit_model.specs.Rules.Chunks.{times}
 use Rattle.wit_model.specs.Rules.Groups.{joined}
 use Rattle.wit_model.specs.Rules.Rows.{row, groups_at, shown_chunks, AreSettled}
 use Rattle.wit_model.proofs.Rows.Newest.{opens-at}
-use Rattle.wit_model.proofs.Rows.Placing.{IsFree, free}
+use Rattle.wit_model.proofs.Rows.Placing.{IsFree, free, times-append}
 use Rattle.wit_model.proofs.Rows.Settled.{push-fits, push-opens, push-refused}
 use Rattle.wit_model.proofs.Rows.Shown.{Leaves, groups-shown}
 use Rattle.wit_model.proofs.Rows.Shown.{both-nil, flat-push}
@@ -21,11 +23,11 @@ use Rattle.wit_pool.specs.declared.chunk.Next.{Next}
 use Rattle.wit_pool.specs.declared.chunk.Chunk.{Chunk}
 use Rattle.wit_pool.specs.declared.chain.Chain.{Chain}
 use Rattle.wit_pool.specs.declared.pool.Pool.TheInside.{Inside}
-use Rattle.wit_pool.specs.Chunks.{chunk_at, content, next_of, IsAt, IsRegrouped, IsLed}
+use Rattle.wit_pool.specs.Chunks.{chunk_at, content, next_of, IsAt, IsRegrouped, IsLed, AreBare}
 use Rattle.wit_pool.specs.Chains.{places, chain_chunks, IsChain, IsLinked, Stands}
-use Rattle.wit_pool.specs.Kept.{rows_of, lists_of, free_of, chunks_in, AreKept}
+use Rattle.wit_pool.specs.Kept.{rows_of, lists_of, spare_of, free_of, chunks_in, AreKept}
 use Rattle.wit_pool.proofs.Links.{Runs, times-end, first, longer, within, read-here, still-there}
-use Rattle.wit_pool.proofs.Links.{length-places, none-left}
+use Rattle.wit_pool.proofs.Links.{length-places, none-left, bare-led, bare-regrouped}
 use Rattle.wit_pool.proofs.Standing as Standing
 use Rattle.wit_pool.proofs.Keeping.{stands, in-lists, in-chains, list-is, linked}
 use Rattle.wit_pool.proofs.Leaving.{IsBeside, IsLeft}
@@ -99,10 +101,10 @@ module _ {A : Type 0} (v : Inside A) (shows : Chunks) (is : chunks_in v ≡ show
           let y : List Instance = content (chunk_at cs p) ++ x ∷ [] in
           let row-is : row (rows_of v) p ≡ content (chunk_at cs p) = row-there at starts.1 in
           let s : Stands v.cells.at w.cells.slots w.chains.items w.free (set (rows_of v) p y)
-          (lists_of v) (free_of v) =
+          (lists_of v) (spare_of v) =
           rw (same, spare)
           (Standing.regrouped v.cells.at cs v.chains.items v.free (rows_of v) (lists_of v)
-          (free_of v) (stands v shows is kept) w.cells.slots p y put) in
+          (spare_of v) (stands v shows is kept) w.cells.slots p y put) in
           let leaves : Leaves (set (rows_of v) p y) (lists_of v) (free_of v) (pushed shows list x) =
           subst (λ c'. Leaves (set (rows_of v) p y) (lists_of v) (free_of v) (pushed c' list x)) is
           (subst (λ g. Leaves (set (rows_of v) p (g ++ x ∷ [])) (lists_of v) (free_of v)
@@ -110,9 +112,10 @@ module _ {A : Type 0} (v : Inside A) (shows : Chunks) (is : chunks_in v ≡ show
           (push-fits (rows_of v) (lists_of v) list (in-lists v shows is kept list there)
           (free_of v) kept.settled p x newest-is
           (subst (λ (g : List Instance). length g < 5) (sym row-is) short) fits-there)) in
-          left-now v shows is kept list there w beside p y ps (free_of v)
+          left-now v shows is kept list there w beside p y ps (spare_of v)
           (pushed shows list x) (lists_of v)
-          (sym (set-get_or (lists_of v) (list - 1) [])) s leaves
+          (sym (set-get_or (lists_of v) (list - 1) [])) s
+          (bare-regrouped v.cells.at cs v.unmade kept.bare w.cells.slots p y put) leaves
 
   -- the newest chunk is full
   module _ (full : IfSome c.head (λ at. 5 ≤ length (content (chunk_at v.cells.slots at.place))))
@@ -132,12 +135,16 @@ module _ {A : Type 0} (v : Inside A) (shows : Chunks) (is : chunks_in v ≡ show
               opens-there at e ∙ ap not (le-ltb (length (content (chunk_at cs at.place))) 5 h)
 
       -- no chunk is free
-      module _ (e : v.free.head ≡ None) where
+      module _ (e : v.free.head ≡ None) (made : v.unmade ≡ 0) where
         pub refused : is_refused shows list ≡ true
         refused =
             let none : length (free_of v) ≡ 0 =
-            count-free v shows is kept ∙ none-left v.cells.at cs v.free.count v.free.head
-            kept.spare e in
+            omega (
+              arith,
+              made,
+              count-free v shows is kept,
+              none-left v.cells.at cs v.free.count v.free.head kept.spare e,
+            ) in
             subst (λ c'. is_refused c' list ≡ true) is
             (push-refused (rows_of v) (lists_of v) list (in-lists v shows is kept list there)
             (free_of v) opens-one none)
@@ -152,11 +159,15 @@ module _ {A : Type 0} (v : Inside A) (shows : Chunks) (is : chunks_in v ≡ show
         abbrev next : Option Next
         next = next_of (chunk_at v.cells.slots at.place)
 
+        -- the other ones that are linked and free
+        abbrev spare : List ℕ
+        spare = places v.cells.slots (v.free.count - 1) next
+
         abbrev rest : List ℕ
-        rest = places v.cells.slots (v.free.count - 1) next
+        rest = range_with_len 0 v.unmade ++ spare
 
         frees : (1 ≤ v.free.count) × IsAt v.cells.at cs at
-            × (places cs v.free.count (Some at) ≡ rest ++ at.place ∷ [])
+            × (places cs v.free.count (Some at) ≡ spare ++ at.place ∷ [])
             × IsChain v.cells.at cs (v.free.count - 1) next
         frees =
             first v.cells.at cs v.free.count at
@@ -169,7 +180,9 @@ module _ {A : Type 0} (v : Inside A) (shows : Chunks) (is : chunks_in v ≡ show
         free-there = frees.1
 
         free-is : free_of v ≡ rest ++ at.place ∷ []
-        free-is = ap (places cs v.free.count) e ∙ frees.2
+        free-is =
+            ap (λ qs. range_with_len 0 v.unmade ++ qs) (ap (places cs v.free.count) e ∙ frees.2)
+            ∙ sym (append_assoc (range_with_len 0 v.unmade) spare (at.place ∷ []))
 
         settled-there : AreSettled (rows_of v) (lists_of v) (rest ++ at.place ∷ [])
         settled-there = subst (AreSettled (rows_of v) (lists_of v)) free-is kept.settled
@@ -180,8 +193,14 @@ module _ {A : Type 0} (v : Inside A) (shows : Chunks) (is : chunks_in v ≡ show
             settled-there.placed at.place
             (omega (arith, times-end at.place rest))
 
-        none-left-of-it : times at.place rest ≡ 0
-        none-left-of-it = omega (arith, known.once, times-end at.place rest)
+        none-left-of-it : times at.place spare ≡ 0
+        none-left-of-it =
+            omega (
+              arith,
+              known.once,
+              times-end at.place rest,
+              times-append at.place (range_with_len 0 v.unmade) spare,
+            )
 
         empty-row : row (rows_of v) at.place ≡ []
         empty-row =
@@ -212,11 +231,11 @@ module _ {A : Type 0} (v : Inside A) (shows : Chunks) (is : chunks_in v ≡ show
               (within cs at.place led.was led.there))
 
           stands-led : (free' : Chain) → free'.head ≡ next → free'.count ≡ v.free.count - 1
-              → Stands v.cells.at cs1 v.chains.items free' (rows_of v) (lists_of v) rest
+              → Stands v.cells.at cs1 v.chains.items free' (rows_of v) (lists_of v) spare
           stands-led free' h n =
-              Standing.led v.cells.at cs v.chains.items free' (rows_of v) (lists_of v) rest
+              Standing.led v.cells.at cs v.chains.items free' (rows_of v) (lists_of v) spare
               (Standing.respared v.cells.at cs v.chains.items v.free (rows_of v) (lists_of v)
-              (free_of v) (stands v shows is kept) free' rest
+              (spare_of v) (stands v shows is kept) free' spare
               (rw (h, n) (refl, frees.3)))
               cs1 at.place c.head led known.apart none-left-of-it
 
@@ -242,25 +261,28 @@ module _ {A : Type 0} (v : Inside A) (shows : Chunks) (is : chunks_in v ≡ show
               let rows : List (List Instance) = rows_of v in
               let lt : list - 1 < length v.chains.items = in-chains v shows is kept list there in
               let y : List Instance = content (chunk_at cs1 p) ++ x ∷ [] in
-              let s1 : Stands v.cells.at cs1 v.chains.items w.free rows (lists_of v) rest =
+              let s1 : Stands v.cells.at cs1 v.chains.items w.free rows (lists_of v) spare =
               stands-led w.free fh fn in
               let old : Runs v.cells.at cs1 c.count c.head ps = (
                 ap (chain_chunks cs1) read ∙ sym
-                    (Standing.list-at v.cells.at cs1 v.chains.items w.free rows (lists_of v) rest s1
-                    (list - 1) c lt),
+                    (Standing.list-at v.cells.at cs1 v.chains.items w.free rows (lists_of v) spare
+                    s1 (list - 1) c lt),
                 subst (IsLinked v.cells.at cs1) (sym read) (s1.linked (list - 1) c lt),
               ) in
               let more : Runs v.cells.at cs1 c'.count c'.head (ps ++ p ∷ []) =
               rw (ch, cn) (longer v.cells.at cs1 c.count c.head ps at old led-at leads-on) in
               let s2 : Stands v.cells.at cs1 (set v.chains.items (list - 1) c') w.free rows
-              (set (lists_of v) (list - 1) (ps ++ p ∷ [])) rest =
-              Standing.relisted v.cells.at cs1 v.chains.items w.free rows (lists_of v) rest s1
+              (set (lists_of v) (list - 1) (ps ++ p ∷ [])) spare =
+              Standing.relisted v.cells.at cs1 v.chains.items w.free rows (lists_of v) spare s1
               (list - 1) c' (ps ++ p ∷ []) lt more in
               let s3 : Stands v.cells.at w.cells.slots w.chains.items w.free (set rows p y)
-              (set (lists_of v) (list - 1) (ps ++ p ∷ [])) rest =
+              (set (lists_of v) (list - 1) (ps ++ p ∷ [])) spare =
               rw chains
               (Standing.regrouped v.cells.at cs1 (set v.chains.items (list - 1) c') w.free rows
-              (set (lists_of v) (list - 1) (ps ++ p ∷ [])) rest s2 w.cells.slots p y put) in
+              (set (lists_of v) (list - 1) (ps ++ p ∷ [])) spare s2 w.cells.slots p y put) in
+              let bare : AreBare w.cells.slots v.unmade =
+              bare-regrouped v.cells.at cs1 v.unmade
+              (bare-led v.cells.at cs v.unmade kept.bare cs1 p c.head led) w.cells.slots p y put in
               let leaves : Leaves (set rows p y) (set (lists_of v) (list - 1) (ps ++ p ∷ [])) rest
               (pushed shows list x) =
               subst (λ d. Leaves (set rows p y) (set (lists_of v) (list - 1) (ps ++ p ∷ [])) rest
@@ -273,5 +295,5 @@ module _ {A : Type 0} (v : Inside A) (shows : Chunks) (is : chunks_in v ≡ show
               (empty-row ∙ sym led-empty)
               (push-opens rows (lists_of v) list (in-lists v shows is kept list there) rest p
               settled-there x opens-one))) in
-              left-now v shows is kept list there w beside p y (ps ++ p ∷ []) rest
-              (pushed shows list x) (set (lists_of v) (list - 1) (ps ++ p ∷ [])) refl s3 leaves
+              left-now v shows is kept list there w beside p y (ps ++ p ∷ []) spare
+              (pushed shows list x) (set (lists_of v) (list - 1) (ps ++ p ∷ [])) refl s3 bare leaves

@@ -3,10 +3,10 @@ use Rattle.std.proofs.Common.{◌≡◌, ℕ, suc, ◌+◌, ◌-◌, ◌<◌, �
 use Rattle.std.proofs.Common.{set, get_or, None, Some, is_some, slice_get, refl, ap, ap₂, sym, ◌∙◌}
 use Rattle.std.proofs.Common.{subst, ◌⊎◌, inl, inr, arith}
 use Rattle.std.specs.Prelude.{Option, IfSome}
-use Rattle.std.specs.List.{remove, concat}
+use Rattle.std.specs.List.{remove, concat, range_with_len}
 use Rattle.std.specs.Option.{option_map}
 use Rattle.std.proofs.lemmas.Bool.{true≢false, cases_lt}
-use Rattle.std.proofs.lemmas.List.{append-nil, drop_all, set-get_or}
+use Rattle.std.proofs.lemmas.List.{append-nil, append_assoc, drop_all, set-get_or}
 use Rattle.std.proofs.lemmas.Option.{slice_get_within, slice_get-get_or, get_or_from_slice_get}
 use Rattle.wit_model.specs.declared.locks.Instance.{Instance}
 use Rattle.wit_model.specs.declared.chunks.Spot.{Spot}
@@ -22,13 +22,13 @@ use Rattle.wit_pool.specs.declared.chunk.Chunk.{Chunk}
 use Rattle.wit_pool.specs.declared.chain.Chain.{Chain}
 use Rattle.wit_pool.specs.declared.pool.Pool.TheInside.{Inside}
 use Rattle.wit_pool.specs.Chunks.{chunk_at, content, next_of, next_place, Leads, IsAt, IsRegrouped}
-use Rattle.wit_pool.specs.Chunks.{IsLed, HasChunkAt}
+use Rattle.wit_pool.specs.Chunks.{IsLed, HasChunkAt, AreBare}
 use Rattle.wit_pool.specs.Chains.{places, chain_chunks, IsLinked, Stands, Passes, IsFreed}
-use Rattle.wit_pool.specs.Kept.{rows_of, lists_of, free_of, chunks_in, AreKept}
+use Rattle.wit_pool.specs.Kept.{rows_of, lists_of, spare_of, free_of, chunks_in, AreKept}
 use Rattle.wit_pool.proofs.Links.{Runs, Stood, stood, longer, times-end, within, read-here}
-use Rattle.wit_pool.proofs.Links.{length-places}
+use Rattle.wit_pool.proofs.Links.{length-places, bare-regrouped, bare-freed}
 use Rattle.wit_pool.proofs.Standing as Standing
-use Rattle.wit_pool.proofs.Keeping.{stands, in-lists, in-chains, list-is, linked}
+use Rattle.wit_pool.proofs.Keeping.{stands, in-lists, in-chains, list-is, linked, not-spare}
 use Rattle.wit_pool.proofs.Leaving.{IsBeside, IsLeft}
 use Rattle.wit_pool.proofs.Keeping.{stands-in, in-list, chunk-is, known, row-is, in-row}
 use Rattle.wit_pool.proofs.Leaving.{left-now}
@@ -84,12 +84,19 @@ module _ {A : Type 0} (v : Inside A) (shows : Chunks) (is : chunks_in v ≡ show
     abbrev rows : List (List Instance)
     rows = set (rows_of v) s.chunk fewer
 
-    taken-out : Stands v.cells.at cs v.chains.items v.free rows (lists_of v) (free_of v)
+    regrouped : IsRegrouped v.cells.slots cs s.chunk fewer
+    regrouped =
+        subst (λ p. IsRegrouped v.cells.slots cs p
+        (remove (content (chunk_at v.cells.slots p)) index)) l_is put
+
+    taken-out : Stands v.cells.at cs v.chains.items v.free rows (lists_of v) (spare_of v)
     taken-out =
         Standing.regrouped v.cells.at v.cells.slots v.chains.items v.free (rows_of v) (lists_of v)
-        (free_of v) (stands v shows is kept) cs s.chunk fewer
-        (subst (λ p. IsRegrouped v.cells.slots cs p
-        (remove (content (chunk_at v.cells.slots p)) index)) l_is put)
+        (spare_of v) (stands v shows is kept) cs s.chunk fewer regrouped
+
+    bare-there : AreBare cs v.unmade
+    bare-there =
+        bare-regrouped v.cells.at v.cells.slots v.unmade kept.bare cs s.chunk fewer regrouped
 
     -- the chunk stays
     pub stays : (1 ≤ length fewer) ⊎ (c.count ≤ 1) → (w : Inside A) → IsBeside v w
@@ -109,8 +116,9 @@ module _ {A : Type 0} (v : Inside A) (shows : Chunks) (is : chunks_in v ≡ show
         (in-list v shows is kept list there s at)
         (in-row v shows is kept list there s at index in_group) stay) in
         left-now v shows is kept list there w beside s.chunk fewer ps
-        (free_of v) groups (lists_of v)
-        (sym (set-get_or (lists_of v) (list - 1) [])) (rw (slots, chains, spare) taken-out) leaves
+        (spare_of v) groups (lists_of v)
+        (sym (set-get_or (lists_of v) (list - 1) [])) (rw (slots, chains, spare) taken-out)
+        (subst (λ ds. AreBare ds v.unmade) (sym slots) bare-there) leaves
 
     -- the list's chunks are still there
     stood-now : (k p : ℕ) → slice_get ps k ≡ Some p → Stood v.cells.at cs c.count c.head k p
@@ -119,7 +127,7 @@ module _ {A : Type 0} (v : Inside A) (shows : Chunks) (is : chunks_in v ≡ show
         (subst (IsLinked v.cells.at cs) (sym read) (taken-out.linked (list - 1) c lt)) k p
         (subst (λ qs. slice_get qs k ≡ Some p)
         (Standing.list-at v.cells.at cs v.chains.items v.free rows (lists_of v)
-        (free_of v) taken-out (list - 1) c lt
+        (spare_of v) taken-out (list - 1) c lt
         ∙ ap (chain_chunks cs) (sym read)) e)
 
     there-now : (k p : ℕ) → slice_get ps k ≡ Some p → HasChunkAt cs p
@@ -158,7 +166,7 @@ module _ {A : Type 0} (v : Inside A) (shows : Chunks) (is : chunks_in v ≡ show
           → Passes cs between newer (next_of (chunk_at cs l.place)) c.head c'.head
           → c'.count ≡ c.count - 1
           → Stands v.cells.at between (set v.chains.items (list - 1) c') v.free rows
-          (set (lists_of v) (list - 1) (remove ps s.group)) (free_of v)
+          (set (lists_of v) (list - 1) (remove ps s.group)) (spare_of v)
       passes between None e c' past less =
           let k : ℕ = s.group in
           let last : length ps ≡ k + 1 = elim (cases_lt (k + 1) (length ps)) [
@@ -171,7 +179,7 @@ module _ {A : Type 0} (v : Inside A) (shows : Chunks) (is : chunks_in v ≡ show
           stood-now k s.chunk (stands-in v shows is kept list there s at).chunk in
           let all : ps ≡ places cs c.count c.head =
           Standing.list-at v.cells.at cs v.chains.items v.free rows (lists_of v)
-          (free_of v) taken-out (list - 1) c lt ∙ ap (chain_chunks cs) (sym read) in
+          (spare_of v) taken-out (list - 1) c lt ∙ ap (chain_chunks cs) (sym read) in
           let left : take k ps ≡ remove ps k =
           sym (append-nil (take k ps)) ∙ ap (λ qs. take k ps ++ qs)
           (sym (drop_all (suc k) ps (omega (arith, last)))) in
@@ -181,9 +189,9 @@ module _ {A : Type 0} (v : Inside A) (shows : Chunks) (is : chunks_in v ≡ show
           let runs : Runs v.cells.at cs c'.count c'.head (remove ps k) =
           rw (head, count) (o.older.0 ∙ ap (take k) (sym all) ∙ left, o.older.1) in
           subst (λ ds. Stands v.cells.at ds (set v.chains.items (list - 1) c') v.free rows
-          (set (lists_of v) (list - 1) (remove ps k)) (free_of v)) (sym past.0)
+          (set (lists_of v) (list - 1) (remove ps k)) (spare_of v)) (sym past.0)
           (Standing.relisted v.cells.at cs v.chains.items v.free rows (lists_of v)
-          (free_of v) taken-out (list - 1) c' (remove ps k) lt runs)
+          (spare_of v) taken-out (list - 1) c' (remove ps k) lt runs)
       passes between (Some q) e c' past less =
           let k : ℕ = s.group in
           let at_q : slice_get ps (k + 1) ≡ Some q.place =
@@ -205,13 +213,13 @@ module _ {A : Type 0} (v : Inside A) (shows : Chunks) (is : chunks_in v ≡ show
           (past.1 ∙ ap (λ (d : Chain). d.head) read)
           (less ∙ ap (λ (d : Chain). d.count - 1) read) in
           subst (λ d. Stands v.cells.at between (set v.chains.items (list - 1) d) v.free rows
-          (set (lists_of v) (list - 1) (remove ps k)) (free_of v)) (sym same)
+          (set (lists_of v) (list - 1) (remove ps k)) (spare_of v)) (sym same)
           (Standing.passed v.cells.at cs v.chains.items v.free rows (lists_of v)
-          (free_of v) taken-out between (list - 1) c k s.chunk q.place lt
+          (spare_of v) taken-out between (list - 1) c k s.chunk q.place lt
           (stands-in v shows is kept list there s at).chunk at_q
           (subst (λ p. 1 ≤ times p ps) q_is (times-in ps (k + 1) 0 in_ps))
           (omega (arith, once.once))
-          once.apart past-it)
+          (not-spare v shows is kept q.place once.apart) past-it)
 
       -- the emptied chunk becomes free
       pub freed : length fewer ≡ 0 → 1 < c.count → (w : Inside A) → IsBeside v w
@@ -227,7 +235,7 @@ module _ {A : Type 0} (v : Inside A) (shows : Chunks) (is : chunks_in v ≡ show
           let all : List Chain = set v.chains.items (list - 1) c' in
           let led : IsLed done.between w.cells.slots l.place v.free.head = done.freed in
           let x : Chunk = record { next = v.free.head; group = led.was.group } in
-          let s2 : Stands v.cells.at done.between all v.free rows lists (free_of v) =
+          let s2 : Stands v.cells.at done.between all v.free rows lists (spare_of v) =
           passes done.between newer e c' done.passed less in
           let gone : times l.place (concat lists) ≡ 0 =
           subst (λ p. times p (concat lists) ≡ 0)
@@ -237,35 +245,40 @@ module _ {A : Type 0} (v : Inside A) (shows : Chunks) (is : chunks_in v ≡ show
           (in-lists v shows is kept list there)
           (in-list v shows is kept list there s at) kept.settled.placed)
           (get_or ps k 0) (omega (arith, times-end (get_or ps k 0) (free_of v)))).apart in
-          let not_free : times l.place (free_of v) ≡ 0 =
-          subst (λ p. times p (free_of v) ≡ 0) (sym l_is)
-          (known v shows is kept list there s at).apart in
-          let s3 : Stands v.cells.at w.cells.slots all v.free rows lists (free_of v) =
+          let not_spare : times l.place (spare_of v) ≡ 0 =
+          subst (λ p. times p (spare_of v) ≡ 0) (sym l_is)
+          (not-spare v shows is kept s.chunk (known v shows is kept list there s at).apart) in
+          let s3 : Stands v.cells.at w.cells.slots all v.free rows lists (spare_of v) =
           Standing.led v.cells.at done.between all v.free rows lists
-          (free_of v) s2 w.cells.slots l.place v.free.head led gone not_free in
+          (spare_of v) s2 w.cells.slots l.place v.free.head led gone not_spare in
           let here : chunk_at w.cells.slots l.place ≡ Some x =
           ap (λ ds. chunk_at ds l.place) led.now
           ∙ read-here v.cells.at done.between l.place x
           (within done.between l.place led.was led.there) in
           let runs : Runs v.cells.at w.cells.slots w.free.count w.free.head
-          (free_of v ++ s.chunk ∷ []) =
+          (spare_of v ++ s.chunk ∷ []) =
           rw (fh, fn)
           (subst (λ p. Runs v.cells.at w.cells.slots (v.free.count + 1) (Some l)
-          (free_of v ++ p ∷ [])) l_is
-          (longer v.cells.at w.cells.slots v.free.count v.free.head (free_of v) l
+          (spare_of v ++ p ∷ [])) l_is
+          (longer v.cells.at w.cells.slots v.free.count v.free.head (spare_of v) l
           (s3.unused, s3.spare)
           (record { leads = leads; chunk = x; there = here }) (ap next_of here))) in
           let s4 : Stands v.cells.at w.cells.slots w.chains.items w.free rows lists
-          (free_of v ++ s.chunk ∷ []) =
+          (spare_of v ++ s.chunk ∷ []) =
           rw chains (Standing.respared v.cells.at w.cells.slots all v.free rows lists
-          (free_of v) s3 w.free (free_of v ++ s.chunk ∷ []) runs) in
-          let leaves : Leaves rows lists (free_of v ++ s.chunk ∷ []) groups =
-          named (λ gs p d. Leaves gs lists (free_of v ++ p ∷ [])
+          (spare_of v) s3 w.free (spare_of v ++ s.chunk ∷ []) runs) in
+          let unmade : List ℕ = range_with_len 0 v.unmade in
+          let leaves : Leaves rows lists (unmade ++ (spare_of v ++ s.chunk ∷ [])) groups =
+          subst (λ us. Leaves rows lists us groups)
+          (append_assoc unmade (spare_of v) (s.chunk ∷ []))
+          (named (λ gs p d. Leaves gs lists (free_of v ++ p ∷ [])
           (set_groups d list (removed_in s.group index (groups_of d list))))
           (removed-freed (rows_of v) (lists_of v) list (in-lists v shows is kept list there)
           (free_of v) kept.settled k index
           (in-list v shows is kept list there s at)
           (in-row v shows is kept list there s at index in_group) (left-is ∙ none)
-          (λ one. absurd (omega (arith, one, many, several)))) in
+          (λ one. absurd (omega (arith, one, many, several))))) in
           left-now v shows is kept list there w beside s.chunk fewer (remove ps k)
-          (free_of v ++ s.chunk ∷ []) groups lists refl s4 leaves
+          (spare_of v ++ s.chunk ∷ []) groups lists refl s4
+          (bare-freed v.cells.at cs w.cells.slots v.unmade l.place newer c.head v.free.head c'.head
+          bare-there done) leaves

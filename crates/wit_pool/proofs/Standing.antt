@@ -89,7 +89,7 @@ module _ (at : Ptr) (cs : List (Option Chunk)) (chains : List Chain) (free : Cha
       ∙ ap content there
 
   -- chunks that lead where they led
-  same-all : (cs' : List (Option Chunk)) → ((l : Next) → IsAt at cs l → IsAt at cs' l)
+  pub same-all : (cs' : List (Option Chunk)) → ((l : Next) → IsAt at cs l → IsAt at cs' l)
       → ((q : ℕ) → 1 ≤ times q (concat lists) + times q unused
       → next_of (chunk_at cs' q) ≡ next_of (chunk_at cs q))
       → (rows' : List (List Instance)) → rows_in cs' ≡ rows'

@@ -1,12 +1,13 @@
 -- Through which chunks the links lead.
-use Rattle.std.specs.Prelude.{◌≡◌, ℕ, zero, suc, List, [], ◌∷◌, ◌++◌, map, Option, None, Some}
+use Rattle.std.specs.Prelude.{◌≡◌, ℕ, ◌+◌, zero, suc, List, [], ◌∷◌, ◌++◌, map, Option, None, Some}
+use Rattle.std.specs.Prelude.{slice_set, ◌⊎◌}
 use Rattle.std.specs.List.{All}
 use denote.RawPtr.{Ptr}
 use Rattle.wit_model.specs.declared.locks.Instance.{Instance}
 use Rattle.wit_pool.specs.declared.chunk.Next.{Next}
 use Rattle.wit_pool.specs.declared.chunk.Chunk.{Chunk}
 use Rattle.wit_pool.specs.declared.chain.Chain.{Chain}
-use Rattle.wit_pool.specs.Chunks.{chunk_at, next_of, rows_in, IsAt, IsLed}
+use Rattle.wit_pool.specs.Chunks.{chunk_at, content, next_of, rows_in, Leads, IsAt, IsLed}
 
 -- the places of so many chunks from this link on, the last one first
 abbrev pub places : List (Option Chunk) → ℕ → Option Next → List ℕ
@@ -48,3 +49,30 @@ pub record IsFreed (cs cs' : List (Option Chunk)) (p : ℕ) (newer head free hea
   pub between : List (Option Chunk)
   pub passed : Passes cs between newer (next_of (chunk_at cs p)) head head'
   pub freed : IsLed between cs' p free
+
+-- the free chunks stay, and one is free unless each place holds a chunk
+pub record Stays (cs cs' : List (Option Chunk)) (old : Chain) (unmade : ℕ)
+    (result : Chain × ℕ) : Type 0 where
+  pub slots : cs' ≡ cs
+  pub free : result ≡ (old, unmade)
+  pub none : old.head ≡ None → unmade ≡ 0
+
+-- no chunk is free, and the last place that holds none gets an empty one, the only free one
+pub record Makes (at : Ptr) (cs cs' : List (Option Chunk)) (old : Chain) (unmade : ℕ)
+    (result : Chain × ℕ) : Type 0 where
+  pub none : old.head ≡ None
+  pub link : Next
+  pub chunk : Chunk
+  pub leads : Leads at link
+  pub place : link.place ≡ result.1
+  pub last : result.1 + 1 ≡ unmade
+  pub now : cs' ≡ slice_set cs link.place (Some chunk)
+  pub empty : content (Some chunk) ≡ []
+  pub ends : chunk.next ≡ None
+  pub free : (result.0.head ≡ Some link) × (result.0.count ≡ 1)
+
+-- a chunk is free, unless all places hold chunks of lists
+abbrev pub IsReady : Ptr → List (Option Chunk) → List (Option Chunk) → Chain → ℕ → Chain × ℕ
+    → Type 0
+IsReady at cs cs' free unmade result =
+    Stays cs cs' free unmade result ⊎ Makes at cs cs' free unmade result

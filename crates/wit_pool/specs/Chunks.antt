@@ -1,5 +1,5 @@
 -- What the places of a block hold: chunks, each with its locks and a link to the next one.
-use Rattle.std.specs.Prelude.{◌≡◌, ℕ, List, [], map, take, get_or, slice_set, Option, None, Some}
+use Rattle.std.specs.Prelude.{◌≡◌, ℕ, ◌<◌, List, [], map, take, get_or, slice_set, Option, None, Some}
 use denote.RawPtr.{Ptr}
 use Rattle.wit_model.specs.declared.locks.Instance.{Instance}
 use Rattle.wit_pool.specs.Places.{spot, spot_at}
@@ -58,3 +58,7 @@ pub record IsLed (cs cs' : List (Option Chunk)) (p : ℕ) (next : Option Next) :
 -- there is a chunk at this place
 abbrev pub HasChunkAt : List (Option Chunk) → ℕ → Type 0
 HasChunkAt cs p = (c : Chunk) × (chunk_at cs p ≡ Some c)
+
+-- the first so many places hold no chunk
+abbrev pub AreBare : List (Option Chunk) → ℕ → Type 0
+AreBare cs n = (p : ℕ) → p < n → chunk_at cs p ≡ None

@@ -1,12 +1,9 @@
 //! Chunks one after another: those of a list, newest first, or the free ones.
 
-ghost use Rattle.std.specs.Prelude.{◌≡◌, ℕ, ◌+◌, ◌-◌, ◌<◌, ◌≤◌, [], None, Some, IfSome};
-ghost use Rattle.std.specs.Prelude.{length, replicate};
-ghost use Rattle.std.specs.List.{range_with_len};
+ghost use Rattle.std.specs.Prelude.{◌≡◌, ℕ, ◌+◌, ◌-◌, ◌<◌, ◌≤◌, None, Some, IfSome, length};
 ghost use Rattle.wit_model.specs.declared.sizes.TheConstants.Limits.{MOST_CHUNKS};
 ghost use Rattle.wit_pool.specs.Chunks.{IsAt, IsLed, HasChunkAt, chunk_at, content, next_of};
-ghost use Rattle.wit_pool.specs.Chunks.{rows_in};
-ghost use Rattle.wit_pool.specs.Chains.{IsLinked, IsFreed, Passes, chain_chunks};
+ghost use Rattle.wit_pool.specs.Chains.{IsLinked, IsFreed, IsReady, Passes};
 
 use crate::cells::{Cells, Link};
 use crate::chunk::{Chunk, Next, lead, link_to, read, write};
@@ -20,25 +17,32 @@ pub struct Chain {
     pub(crate) count: usize,
 }
 
-/// All chunks of a block, empty: one chain.
-pub fn link_all(cells: &mut Cells<Chunk>, first: Link<Chunk>, count: usize) -> Chain
+/// The free chunks, and how many places hold none yet. Where no chunk is free, the last of these
+/// places gets one.
+pub fn ready(
+    cells: &mut Cells<Chunk>,
+    first: Link<Chunk>,
+    free: Chain,
+    unmade: usize,
+) -> (Chain, usize)
     requires first { first.ptr ≡ cells.old.at }
-    requires size { length cells.old.slots ≡ count }
-    requires few { count ≤ MOST_CHUNKS }
-    requires empty { cells.old.slots ≡ replicate count None }
+    requires size { unmade ≤ length cells.old.slots }
+    requires few { unmade ≤ MOST_CHUNKS }
     ensures at { cells.new.at ≡ cells.old.at }
-    ensures rows { rows_in cells.new.slots ≡ replicate count [] }
-    ensures linked { IsLinked cells.new.at cells.new.slots result }
-    ensures places { chain_chunks cells.new.slots result ≡ range_with_len 0 count }
+    ensures ready { IsReady cells.old.at cells.old.slots cells.new.slots free unmade result }
 {
-    let mut head = None;
-    for place in 0..count {
-        let at = link_to(cells, first, place as u16);
-        let group = Group::empty();
-        write(cells, at, Chunk { next: head, group });
-        head = Some(at);
+    if free.head.is_some() || unmade == 0 {
+        return (free, unmade);
     }
-    Chain { head, count }
+    let place = unmade - 1;
+    let at = link_to(cells, first, place as u16);
+    let group = Group::empty();
+    write(cells, at, Chunk { next: None, group });
+    let one = Chain {
+        head: Some(at),
+        count: 1,
+    };
+    (one, place)
 }
 
 /// The newest chunk of a list, where it has room for one more.

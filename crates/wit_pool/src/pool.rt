@@ -7,7 +7,7 @@ ghost use Rattle.wit_model.specs.Rules.Chunks.{IsNew};
 ghost use Rattle.wit_model.specs.Rules.Numbers.{IsNumber};
 
 use crate::cells::{Cells, Deed, Link, allocate, deallocate};
-use crate::chain::{Chain, free_chunk, link_all, open_chunk, take_free};
+use crate::chain::{Chain, free_chunk, open_chunk, ready, take_free};
 use crate::chunk::{Chunk, link_beside, link_to, put, put_at, read, take_out};
 use std::alloc::{AllocError, Allocator, Global};
 use std::marker::Model;
@@ -21,6 +21,9 @@ pub struct Pool<A: Allocator = Global> {
     chains: Vec<Chain, A>,
     // The free chunks.
     free: Chain,
+    // The places below this one hold no chunk yet: one is made only where no other is free, so room
+    // that nobody needs is never written to.
+    unmade: usize,
     // The block's first place, and how many places it has.
     first: Link<Chunk>,
     count: usize,
@@ -46,6 +49,7 @@ impl<A: Allocator> Drop for Pool<A> {
         let Pool {
             chains: _,
             free: _,
+            unmade: _,
             first,
             count,
             cells,
@@ -95,11 +99,11 @@ impl<A: Allocator> Pool<A> {
             count: 0,
         };
         let chains = Vec::from_elem(alloc, empty, lists as usize)?;
-        let (first, mut cells, deed) = allocate(&alloc, count)?;
-        let free = link_all(&mut cells, first, count);
+        let (first, cells, deed) = allocate(&alloc, count)?;
         Ok(Pool {
             chains,
-            free,
+            free: empty,
+            unmade: count,
             first,
             count,
             cells,
@@ -120,16 +124,21 @@ impl<A: Allocator> Lists for Pool<A> {
                 put(&mut self.cells, at, instance);
                 true
             }
-            None => match self.free.head {
-                Some(at) => {
-                    let (chain, free) = take_free(&mut self.cells, at, chain, self.free);
-                    put(&mut self.cells, at, instance);
-                    self.chains[list] = chain;
-                    self.free = free;
-                    true
+            None => {
+                let (free, unmade) = ready(&mut self.cells, self.first, self.free, self.unmade);
+                self.free = free;
+                self.unmade = unmade;
+                match free.head {
+                    Some(at) => {
+                        let (chain, free) = take_free(&mut self.cells, at, chain, free);
+                        put(&mut self.cells, at, instance);
+                        self.chains[list] = chain;
+                        self.free = free;
+                        true
+                    }
+                    None => false,
                 }
-                None => false,
-            },
+            }
         }
     }
 
@@ -180,6 +189,6 @@ impl<A: Allocator> Lists for Pool<A> {
     }
 
     fn free_chunks(&self) -> usize {
-        self.free.count
+        self.unmade + self.free.count
     }
 }

@@ -28,6 +28,7 @@ word_text word.Name = codes "name"
 word_text word.Thread = codes "thread"
 word_text word.Asked = codes "asked"
 word_text word.Look = codes "look"
+word_text word.Process = codes "process"
 word_text word.Error = codes "error"
 word_text word.Again = codes "again"
 word_text word.Foreign = codes "foreign"
@@ -36,8 +37,8 @@ word_text word.Foreign = codes "foreign"
 unfoldable pub word_named : List ℕ → Option Word
 word_named =
     named word_text (word.Check ∷ word.Lock ∷ word.Unlock ∷ word.Try ∷ word.GiveUp ∷ word.Init
-    ∷ word.Name ∷ word.Thread ∷ word.Asked ∷ word.Look ∷ word.Error ∷ word.Again ∷ word.Foreign
-    ∷ [])
+    ∷ word.Name ∷ word.Thread ∷ word.Asked ∷ word.Look ∷ word.Process ∷ word.Error ∷ word.Again
+    ∷ word.Foreign ∷ [])
 
 -- that of one which is passed over: it declares code or types, ..
 unfoldable pub is_declaring : List ℕ → Bool
@@ -142,6 +143,9 @@ unfoldable pub look_of : List ℕ → Option Line
 look_of [] = Some said.Look
 look_of (b ∷ bytes) = None
 
+unfoldable pub process_of : List ℕ → Option Line
+process_of bytes = whole leading_count bytes >>= λ process. Some (said.Process process)
+
 abbrev pub misuse_text : Misuse → List ℕ
 misuse_text misuse.Ended = codes "ended"
 misuse_text misuse.Destroyed = codes "destroyed"
@@ -180,6 +184,7 @@ fields_of word.Name = name_of
 fields_of word.Thread = thread_of
 fields_of word.Asked = begun_of
 fields_of word.Look = look_of
+fields_of word.Process = process_of
 fields_of word.Error = error_of
 fields_of word.Again = misuse_of misuse.Again
 fields_of word.Foreign = misuse_of misuse.Foreign

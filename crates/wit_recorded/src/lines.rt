@@ -28,6 +28,8 @@ pub enum Word {
     Asked,
     /// `look`.
     Look,
+    /// `process`.
+    Process,
     /// `error`.
     Error,
     /// `again`.
@@ -97,6 +99,8 @@ pub enum Line {
     Error(Misuse, SeatNo, LockNo, u32),
     /// It is asked what is known now.
     Look,
+    /// The lines after it are of the process with this number.
+    Process(u32),
     /// Something that no finding needs.
     Passed,
 }

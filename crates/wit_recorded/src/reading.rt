@@ -5,8 +5,8 @@ ghost use Rattle.std.specs.Option.{option_copied};
 ghost use Rattle.wit_fields.specs.Fields.{Gives};
 ghost use Rattle.wit_recorded.specs.Reading.{begun_of, check_of, error_of, fields_of, give_up_of};
 ghost use Rattle.wit_recorded.specs.Reading.{init_of, is_aside, is_declaring, is_passed, line_of, lock_of};
-ghost use Rattle.wit_recorded.specs.Reading.{look_of, makes_lock, misuse_of, name_of, thread_of, try_of};
-ghost use Rattle.wit_recorded.specs.Reading.{unlock_of, word_named};
+ghost use Rattle.wit_recorded.specs.Reading.{look_of, makes_lock, misuse_of, name_of, process_of};
+ghost use Rattle.wit_recorded.specs.Reading.{thread_of, try_of, unlock_of, word_named};
 
 use crate::fields::{at, count, manner, misuse, recursive};
 use crate::lines::{Asked, Line, Misuse, Word};
@@ -64,6 +64,8 @@ fn word_of(first: &[u8]) -> Option<Word>
         Some(Word::Asked)
     } else if first == b"look".as_slice() {
         Some(Word::Look)
+    } else if first == b"process".as_slice() {
+        Some(Word::Process)
     } else if first == b"error".as_slice() {
         Some(Word::Error)
     } else if first == b"again".as_slice() {
@@ -128,6 +130,7 @@ fn fields(alloc: Global, word: Word, bytes: &[u8]) -> Result<Line, LineError>
         Word::Thread => thread(bytes),
         Word::Asked => begun(bytes),
         Word::Look => look(bytes),
+        Word::Process => process(bytes),
         Word::Error => error(bytes),
         Word::Again => misused(Misuse::Again, bytes),
         Word::Foreign => misused(Misuse::Foreign, bytes),
@@ -271,6 +274,17 @@ fn look(bytes: &[u8]) -> Result<Line, LineError>
     } else {
         Err(LineError::SYNTAX)
     }
+}
+
+#[tactic(auto, unfolding(crate::specs::Reading::process_of))]
+fn process(bytes: &[u8]) -> Result<Line, LineError>
+    ensures { Gives (λ line. line) result (process_of bytes.now) }
+{
+    let (process, rest) = count(bytes)?;
+    if !rest.is_empty() {
+        return Err(LineError::SYNTAX);
+    }
+    Ok(Line::Process(process))
 }
 
 #[tactic(auto, unfolding(crate::specs::Reading::error_of))]

@@ -11,7 +11,7 @@ use Rattle.wit_against.specs.Known.{nothing_known}
 use Rattle.wit_against.specs.Outputs.{JudgesFrom}
 use Rattle.wit_grades.specs.Outputs.{Grades, GradesFrom, nothing_told}
 use Rattle.wit_findings.specs.Findings.{FindsFrom}
-use Rattle.wit_findings.specs.Told as known
+use Rattle.wit_findings.specs.Runs as known
 use Rattle.wit_import.specs.Outputs.{Imports, ImportsFrom, nothing_seen}
 use Rattle.wit_kernel.specs.declared.importing.Tracer.TheVariants as tracer
 use Rattle.wit_kernel.specs.Outputs.{Imports as ImportsTraced, settings}

@@ -1,5 +1,6 @@
-use Rattle.wit_findings.specs.Told.{nothing_told}
-use Rattle.wit_findings.proofs.Runs.{nothing-where-refused, run-end, run-lines}
+use Rattle.wit_findings.specs.Runs.{nothing_told}
+use Rattle.wit_findings.proofs.Runs.{none-bad}
+use Rattle.wit_findings.proofs.Reading.{nothing-where-refused, run-end, run-lines}
 use Rattle.wit_findings.proofs.finding.findings.Goals as goal
 
 pub returns-in_err-machine-clause-err : goal.returns-in_err-machine-clause-err
@@ -12,3 +13,6 @@ returns-clause-taken g c =
 pub returns-clause-told : goal.returns-clause-told
 returns-clause-told g c = λ failed.
     run-lines _ nothing_told c.in_ok-machine.ensures _ _ _ _ (c.run.ensures.told failed)
+
+pub run-requires-clause-fresh : goal.run-requires-clause-fresh
+run-requires-clause-fresh g c = none-bad c.in_ok-machine.machine c.in_ok-machine.ensures

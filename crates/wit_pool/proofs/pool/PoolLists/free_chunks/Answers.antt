@@ -1,7 +1,7 @@
-use Rattle.std.proofs.Common.{length, ap, sym, ◌∙◌}
+use Rattle.std.proofs.Common.{length, ap, sym, ◌∙◌, arith}
 use Rattle.wit_model.specs.Rules.Chunks.{Chunks}
 use Rattle.wit_pool.proofs.Keeping.{count-free}
-use Rattle.wit_pool.proofs.Keeping.{placed}
+use Rattle.wit_pool.proofs.Keeping.{placed, few-unmade, few-free}
 use Rattle.wit_pool.proofs.pool.PoolLists.free_chunks.Goals as goal
 
 pub returns-clause-free : goal.returns-clause-free
@@ -11,3 +11,13 @@ returns-clause-free g c =
 
 pub returns-clause-placed : goal.returns-clause-placed
 returns-clause-placed g c = placed c.self.inside c.args.self.now c.self.view_is c.self.invariant
+
+pub overflow_add-result : goal.overflow_add-result
+overflow_add-result g c = record {
+  fits =
+      omega (
+        arith,
+        few-unmade c.self.inside c.args.self.now c.self.view_is c.self.invariant,
+        few-free c.self.inside c.args.self.now c.self.view_is c.self.invariant,
+      );
+}

@@ -1,13 +1,15 @@
 use Rattle.std.proofs.Common.{◌-◌, not, refl, sym, ap, subst, ◌∙◌, arith}
 use Rattle.std.proofs.lemmas.Bool.{true≢false}
 use Rattle.std_alloc.specs.Vec.{with_item}
-use Rattle.wit_model.specs.Rules.Chunks.{pushed}
+use Rattle.wit_model.specs.Rules.Chunks.{Chunks, pushed, KeepOthers}
 use Rattle.wit_model.proofs.Rows.Settled.{others-kept}
 use Rattle.wit_pool.specs.declared.chain.Chain.{Chain}
 use Rattle.wit_pool.specs.Chunks.{IsAt}
-use Rattle.wit_pool.proofs.Keeping.{in-chains, few}
+use Rattle.wit_pool.proofs.Keeping.{in-chains, few, few-unmade, unmade-within}
 use Rattle.wit_pool.proofs.Keeping.{placed}
 use Rattle.wit_pool.proofs.Leaving.{IsLeft}
+use Rattle.wit_pool.specs.Kept.{chunks_in}
+use Rattle.wit_pool.proofs.Making.{prepared, prepares, full-there}
 use Rattle.wit_pool.proofs.Pushing.{linked-here, newest-there, room, joins, some-free, free-there}
 use Rattle.wit_pool.proofs.Pushing.{not-refused, led-at, led-short, opened, refused, refused-groups}
 use Rattle.wit_pool.proofs.pool.PoolLists.push.Given.{Over}
@@ -54,6 +56,7 @@ joined : (g : Over) (c : goal.After-put g)
     (record {
       chains = c.self.inside.chains;
       free = c.self.inside.free;
+      unmade = c.self.inside.unmade;
       first = c.self.inside.first;
       count = c.self.inside.count;
       cells = c.put.new.cells;
@@ -68,6 +71,7 @@ joined g c =
     (record {
       chains = c.self.inside.chains;
       free = c.self.inside.free;
+      unmade = c.self.inside.unmade;
       first = c.self.inside.first;
       count = c.self.inside.count;
       cells = c.put.new.cells;
@@ -75,7 +79,13 @@ joined g c =
       alloc =
           c.self.inside.alloc;
     })
-    (record { at = c.put.ensures.at; first = refl; count = refl; deed = c.self.invariant.deed })
+    (record {
+      at = c.put.ensures.at;
+      first = refl;
+      count = refl;
+      unmade = refl;
+      deed = c.self.invariant.deed;
+    })
     c.args.instance c.put.ensures.slots refl refl
 
 pub invariant_of-self : goal.invariant_of-self
@@ -99,11 +109,33 @@ returns-in-Some-clause-placed g c = (joined g c).placed
 pub returns-in-Some-clause-others : goal.returns-in-Some-clause-others
 returns-in-Some-clause-others g c = (joined g c).others
 
+pub ready-unmade-requires-clause-first : goal.ready-unmade-requires-clause-first
+ready-unmade-requires-clause-first g c = c.self.invariant.first
+
+pub ready-unmade-requires-clause-size : goal.ready-unmade-requires-clause-size
+ready-unmade-requires-clause-size g c =
+    unmade-within c.self.inside c.args.self.now c.self.view_is c.self.invariant
+
+pub ready-unmade-requires-clause-few : goal.ready-unmade-requires-clause-few
+ready-unmade-requires-clause-few g c =
+    few-unmade c.self.inside c.args.self.now c.self.view_is c.self.invariant
+
 pub take_free-requires-clause-there : goal.take_free-requires-clause-there
 take_free-requires-clause-there g c =
-    free-there c.self.inside c.args.self.now c.self.view_is c.self.invariant c.args.list
-    c.requires.list c.index-chain.result.now c.index-chain.ensures
-    (c.in-None.ensures.full refl) c.in-Some-head.at c.in-Some-head.is
+    free-there (prepared c.self.inside c.ready-unmade.new.cells c.ready-unmade.result.0
+    c.ready-unmade.result.1)
+    c.args.self.now
+    (prepares c.self.inside c.args.self.now c.self.view_is c.self.invariant
+    c.ready-unmade.new.cells c.ready-unmade.result c.ready-unmade.ensures.at
+    c.ready-unmade.ensures.ready).is
+    (prepares c.self.inside c.args.self.now c.self.view_is c.self.invariant
+    c.ready-unmade.new.cells c.ready-unmade.result c.ready-unmade.ensures.at
+    c.ready-unmade.ensures.ready).kept
+    c.args.list c.requires.list c.index-chain.result.now c.index-chain.ensures
+    (full-there c.self.inside c.args.self.now c.self.view_is c.self.invariant
+    c.ready-unmade.new.cells c.ready-unmade.result c.ready-unmade.ensures.at
+    c.ready-unmade.ensures.ready c.index-chain.result.now.head (c.in-None.ensures.full refl))
+    c.in-Some-head.at c.in-Some-head.is
 
 pub take_free-requires-clause-few : goal.take_free-requires-clause-few
 take_free-requires-clause-few g c =
@@ -116,59 +148,102 @@ take_free-requires-clause-few g c =
 
 pub take_free-requires-clause-some : goal.take_free-requires-clause-some
 take_free-requires-clause-some g c =
-    some-free c.self.inside c.args.self.now c.self.view_is c.self.invariant c.args.list
-    c.requires.list c.index-chain.result.now c.index-chain.ensures
-    (c.in-None.ensures.full refl) c.in-Some-head.at c.in-Some-head.is
+    some-free (prepared c.self.inside c.ready-unmade.new.cells c.ready-unmade.result.0
+    c.ready-unmade.result.1)
+    c.args.self.now
+    (prepares c.self.inside c.args.self.now c.self.view_is c.self.invariant
+    c.ready-unmade.new.cells c.ready-unmade.result c.ready-unmade.ensures.at
+    c.ready-unmade.ensures.ready).is
+    (prepares c.self.inside c.args.self.now c.self.view_is c.self.invariant
+    c.ready-unmade.new.cells c.ready-unmade.result c.ready-unmade.ensures.at
+    c.ready-unmade.ensures.ready).kept
+    c.args.list c.requires.list c.index-chain.result.now c.index-chain.ensures
+    (full-there c.self.inside c.args.self.now c.self.view_is c.self.invariant
+    c.ready-unmade.new.cells c.ready-unmade.result c.ready-unmade.ensures.at
+    c.ready-unmade.ensures.ready c.index-chain.result.now.head (c.in-None.ensures.full refl))
+    c.in-Some-head.at c.in-Some-head.is
 
 pub put-requires-in-Some-head-clause-there : goal.put-requires-in-Some-head-clause-there
 put-requires-in-Some-head-clause-there g c =
     subst (λ a. IsAt a c.take_free.new.cells.slots c.in-Some-head.at) (sym c.take_free.ensures.at)
-    (led-at c.self.inside c.args.self.now c.self.view_is c.self.invariant c.args.list
-    c.requires.list c.index-chain.result.now c.index-chain.ensures
-    (c.in-None.ensures.full refl) c.in-Some-head.at c.in-Some-head.is c.take_free.new.cells.slots
+    (led-at (prepared c.self.inside c.ready-unmade.new.cells c.ready-unmade.result.0
+    c.ready-unmade.result.1)
+    c.args.self.now
+    (prepares c.self.inside c.args.self.now c.self.view_is c.self.invariant
+    c.ready-unmade.new.cells c.ready-unmade.result c.ready-unmade.ensures.at
+    c.ready-unmade.ensures.ready).is
+    (prepares c.self.inside c.args.self.now c.self.view_is c.self.invariant
+    c.ready-unmade.new.cells c.ready-unmade.result c.ready-unmade.ensures.at
+    c.ready-unmade.ensures.ready).kept
+    c.args.list c.requires.list c.index-chain.result.now c.index-chain.ensures
+    (full-there c.self.inside c.args.self.now c.self.view_is c.self.invariant
+    c.ready-unmade.new.cells c.ready-unmade.result c.ready-unmade.ensures.at
+    c.ready-unmade.ensures.ready c.index-chain.result.now.head (c.in-None.ensures.full refl))
+    c.in-Some-head.at c.in-Some-head.is c.take_free.new.cells.slots
     c.take_free.ensures.slots)
 
 pub put-requires-in-Some-head-clause-short : goal.put-requires-in-Some-head-clause-short
 put-requires-in-Some-head-clause-short g c =
-    led-short c.self.inside c.args.self.now c.self.view_is c.self.invariant c.args.list
-    c.requires.list c.index-chain.result.now c.index-chain.ensures
-    (c.in-None.ensures.full refl) c.in-Some-head.at c.in-Some-head.is c.take_free.new.cells.slots
+    led-short (prepared c.self.inside c.ready-unmade.new.cells c.ready-unmade.result.0
+    c.ready-unmade.result.1)
+    c.args.self.now
+    (prepares c.self.inside c.args.self.now c.self.view_is c.self.invariant
+    c.ready-unmade.new.cells c.ready-unmade.result c.ready-unmade.ensures.at
+    c.ready-unmade.ensures.ready).is
+    (prepares c.self.inside c.args.self.now c.self.view_is c.self.invariant
+    c.ready-unmade.new.cells c.ready-unmade.result c.ready-unmade.ensures.at
+    c.ready-unmade.ensures.ready).kept
+    c.args.list c.requires.list c.index-chain.result.now c.index-chain.ensures
+    (full-there c.self.inside c.args.self.now c.self.view_is c.self.invariant
+    c.ready-unmade.new.cells c.ready-unmade.result c.ready-unmade.ensures.at
+    c.ready-unmade.ensures.ready c.index-chain.result.now.head (c.in-None.ensures.full refl))
+    c.in-Some-head.at c.in-Some-head.is c.take_free.new.cells.slots
     c.take_free.ensures.slots
 
 -- what a lock in a chunk that was free leaves
-began : (g : Over) (c : goal.After-free-in-Some-head-1 g)
+began : (g : Over) (c : goal.After-free-in-Some-head-2-1 g)
     → IsLeft c.args.self.now c.args.list (pushed c.args.self.now c.args.list c.args.instance)
     (record {
       chains = with_item c.self.inside.chains (c.args.list - 1) c.take_free.result.0;
       free = c.take_free.result.1;
+      unmade = c.ready-unmade.result.1;
       first = c.self.inside.first;
-      count =
-          c.self.inside.count;
+      count = c.self.inside.count;
       cells = c.put-in-Some-head.new.cells;
-      deed =
-          c.self.inside.deed;
+      deed = c.self.inside.deed;
       alloc = c.self.inside.alloc;
     })
 began g c =
-    opened c.self.inside c.args.self.now c.self.view_is c.self.invariant c.args.list c.requires.list
-    c.index-chain.result.now c.index-chain.ensures
-    (c.in-None.ensures.full refl) c.in-Some-head.at c.in-Some-head.is c.take_free.new.cells.slots
+    opened (prepared c.self.inside c.ready-unmade.new.cells c.ready-unmade.result.0
+    c.ready-unmade.result.1)
+    c.args.self.now
+    (prepares c.self.inside c.args.self.now c.self.view_is c.self.invariant
+    c.ready-unmade.new.cells c.ready-unmade.result c.ready-unmade.ensures.at
+    c.ready-unmade.ensures.ready).is
+    (prepares c.self.inside c.args.self.now c.self.view_is c.self.invariant
+    c.ready-unmade.new.cells c.ready-unmade.result c.ready-unmade.ensures.at
+    c.ready-unmade.ensures.ready).kept
+    c.args.list c.requires.list c.index-chain.result.now c.index-chain.ensures
+    (full-there c.self.inside c.args.self.now c.self.view_is c.self.invariant
+    c.ready-unmade.new.cells c.ready-unmade.result c.ready-unmade.ensures.at
+    c.ready-unmade.ensures.ready c.index-chain.result.now.head (c.in-None.ensures.full refl))
+    c.in-Some-head.at c.in-Some-head.is c.take_free.new.cells.slots
     c.take_free.ensures.slots
     (record {
       chains = with_item c.self.inside.chains (c.args.list - 1) c.take_free.result.0;
       free = c.take_free.result.1;
+      unmade = c.ready-unmade.result.1;
       first = c.self.inside.first;
-      count =
-          c.self.inside.count;
+      count = c.self.inside.count;
       cells = c.put-in-Some-head.new.cells;
-      deed =
-          c.self.inside.deed;
+      deed = c.self.inside.deed;
       alloc = c.self.inside.alloc;
     })
     (record {
       at = c.put-in-Some-head.ensures.at ∙ c.take_free.ensures.at;
       first = refl;
       count = refl;
+      unmade = refl;
       deed = c.self.invariant.deed;
     })
     c.args.instance c.put-in-Some-head.ensures.slots c.take_free.result.0
@@ -180,9 +255,20 @@ invariant_of-self-in-Some-head g c = (began g c).kept
 
 pub returns-in-Some-head-clause-result : goal.returns-in-Some-head-clause-result
 returns-in-Some-head-clause-result g c =
-    ap not (sym (not-refused c.self.inside c.args.self.now c.self.view_is c.self.invariant
+    ap not (sym (not-refused (prepared c.self.inside c.ready-unmade.new.cells c.ready-unmade.result.0
+    c.ready-unmade.result.1)
+    c.args.self.now
+    (prepares c.self.inside c.args.self.now c.self.view_is c.self.invariant
+    c.ready-unmade.new.cells c.ready-unmade.result c.ready-unmade.ensures.at
+    c.ready-unmade.ensures.ready).is
+    (prepares c.self.inside c.args.self.now c.self.view_is c.self.invariant
+    c.ready-unmade.new.cells c.ready-unmade.result c.ready-unmade.ensures.at
+    c.ready-unmade.ensures.ready).kept
     c.args.list c.requires.list c.index-chain.result.now c.index-chain.ensures
-    (c.in-None.ensures.full refl) c.in-Some-head.at c.in-Some-head.is))
+    (full-there c.self.inside c.args.self.now c.self.view_is c.self.invariant
+    c.ready-unmade.new.cells c.ready-unmade.result c.ready-unmade.ensures.at
+    c.ready-unmade.ensures.ready c.index-chain.result.now.head (c.in-None.ensures.full refl))
+    c.in-Some-head.at c.in-Some-head.is))
 
 pub returns-in-Some-head-clause-groups : goal.returns-in-Some-head-clause-groups
 returns-in-Some-head-clause-groups g c = (began g c).are
@@ -196,36 +282,80 @@ returns-in-Some-head-clause-placed g c = (began g c).placed
 pub returns-in-Some-head-clause-others : goal.returns-in-Some-head-clause-others
 returns-in-Some-head-clause-others g c = (began g c).others
 
-pub returns-in-None-head-clause-result : goal.returns-in-None-head-clause-result
-returns-in-None-head-clause-result g c =
-    ap not (sym (refused c.self.inside c.args.self.now c.self.view_is c.self.invariant c.args.list
-    c.requires.list c.index-chain.result.now c.index-chain.ensures
-    (c.in-None.ensures.full refl) c.in-None-head.is))
-
-pub returns-in-None-head-clause-groups : goal.returns-in-None-head-clause-groups
-returns-in-None-head-clause-groups g c =
-    refused-groups c.self.inside c.args.self.now c.self.view_is c.self.invariant c.args.list
-    c.requires.list c.index-chain.result.now c.index-chain.ensures
-    (c.in-None.ensures.full refl) c.in-None-head.is c.args.instance
-
-pub returns-in-None-head-clause-size : goal.returns-in-None-head-clause-size
-returns-in-None-head-clause-size g c = refl
-
-pub returns-in-None-head-clause-placed : goal.returns-in-None-head-clause-placed
-returns-in-None-head-clause-placed g c =
-    placed c.self.inside c.args.self.now c.self.view_is c.self.invariant
-
-pub returns-in-None-head-clause-others : goal.returns-in-None-head-clause-others
-returns-in-None-head-clause-others g c = others-kept c.args.self.now.places (c.args.list - 1)
-
-pub returns-in-None-head-clause-unchanged : goal.returns-in-None-head-clause-unchanged
-returns-in-None-head-clause-unchanged g c e = refl
-
-pub returns-in-Some-clause-unchanged : goal.returns-in-Some-clause-unchanged
-returns-in-Some-clause-unchanged g c e = absurd (true≢false e)
-
 pub returns-in-Some-head-clause-unchanged : goal.returns-in-Some-head-clause-unchanged
 returns-in-Some-head-clause-unchanged g c e = absurd (true≢false e)
 
-pub same-self : goal.same-self
-same-self g c = refl
+pub invariant_of-self-in-None-head : goal.invariant_of-self-in-None-head
+invariant_of-self-in-None-head g c = (prepares c.self.inside c.args.self.now c.self.view_is c.self.invariant
+    c.ready-unmade.new.cells c.ready-unmade.result c.ready-unmade.ensures.at
+    c.ready-unmade.ensures.ready).kept
+
+pub returns-in-None-head-clause-result : goal.returns-in-None-head-clause-result
+returns-in-None-head-clause-result g c =
+    ap not (sym (refused (prepared c.self.inside c.ready-unmade.new.cells c.ready-unmade.result.0
+    c.ready-unmade.result.1)
+    c.args.self.now
+    (prepares c.self.inside c.args.self.now c.self.view_is c.self.invariant
+    c.ready-unmade.new.cells c.ready-unmade.result c.ready-unmade.ensures.at
+    c.ready-unmade.ensures.ready).is
+    (prepares c.self.inside c.args.self.now c.self.view_is c.self.invariant
+    c.ready-unmade.new.cells c.ready-unmade.result c.ready-unmade.ensures.at
+    c.ready-unmade.ensures.ready).kept
+    c.args.list c.requires.list c.index-chain.result.now c.index-chain.ensures
+    (full-there c.self.inside c.args.self.now c.self.view_is c.self.invariant
+    c.ready-unmade.new.cells c.ready-unmade.result c.ready-unmade.ensures.at
+    c.ready-unmade.ensures.ready c.index-chain.result.now.head (c.in-None.ensures.full refl))
+    c.in-None-head.is ((prepares c.self.inside c.args.self.now c.self.view_is c.self.invariant
+    c.ready-unmade.new.cells c.ready-unmade.result c.ready-unmade.ensures.at
+    c.ready-unmade.ensures.ready).made c.in-None-head.is)))
+
+pub returns-in-None-head-clause-groups : goal.returns-in-None-head-clause-groups
+returns-in-None-head-clause-groups g c =
+    ap (λ (s : Chunks). s.groups) (prepares c.self.inside c.args.self.now c.self.view_is c.self.invariant
+    c.ready-unmade.new.cells c.ready-unmade.result c.ready-unmade.ensures.at
+    c.ready-unmade.ensures.ready).is
+    ∙ refused-groups (prepared c.self.inside c.ready-unmade.new.cells c.ready-unmade.result.0
+    c.ready-unmade.result.1)
+    c.args.self.now
+    (prepares c.self.inside c.args.self.now c.self.view_is c.self.invariant
+    c.ready-unmade.new.cells c.ready-unmade.result c.ready-unmade.ensures.at
+    c.ready-unmade.ensures.ready).is
+    (prepares c.self.inside c.args.self.now c.self.view_is c.self.invariant
+    c.ready-unmade.new.cells c.ready-unmade.result c.ready-unmade.ensures.at
+    c.ready-unmade.ensures.ready).kept
+    c.args.list c.requires.list c.index-chain.result.now c.index-chain.ensures
+    (full-there c.self.inside c.args.self.now c.self.view_is c.self.invariant
+    c.ready-unmade.new.cells c.ready-unmade.result c.ready-unmade.ensures.at
+    c.ready-unmade.ensures.ready c.index-chain.result.now.head (c.in-None.ensures.full refl))
+    c.in-None-head.is ((prepares c.self.inside c.args.self.now c.self.view_is c.self.invariant
+    c.ready-unmade.new.cells c.ready-unmade.result c.ready-unmade.ensures.at
+    c.ready-unmade.ensures.ready).made c.in-None-head.is)
+    c.args.instance
+
+pub returns-in-None-head-clause-size : goal.returns-in-None-head-clause-size
+returns-in-None-head-clause-size g c = ap (λ (s : Chunks). s.size) (prepares c.self.inside c.args.self.now c.self.view_is c.self.invariant
+    c.ready-unmade.new.cells c.ready-unmade.result c.ready-unmade.ensures.at
+    c.ready-unmade.ensures.ready).is
+
+pub returns-in-None-head-clause-placed : goal.returns-in-None-head-clause-placed
+returns-in-None-head-clause-placed g c =
+    placed (prepared c.self.inside c.ready-unmade.new.cells c.ready-unmade.result.0
+    c.ready-unmade.result.1) (chunks_in (prepared c.self.inside c.ready-unmade.new.cells
+    c.ready-unmade.result.0 c.ready-unmade.result.1)) refl (prepares c.self.inside c.args.self.now c.self.view_is c.self.invariant
+    c.ready-unmade.new.cells c.ready-unmade.result c.ready-unmade.ensures.at
+    c.ready-unmade.ensures.ready).kept
+
+pub returns-in-None-head-clause-others : goal.returns-in-None-head-clause-others
+returns-in-None-head-clause-others g c =
+    subst (λ s. KeepOthers c.args.self.now s c.args.list) (sym (prepares c.self.inside c.args.self.now c.self.view_is c.self.invariant
+    c.ready-unmade.new.cells c.ready-unmade.result c.ready-unmade.ensures.at
+    c.ready-unmade.ensures.ready).is)
+    (others-kept c.args.self.now.places (c.args.list - 1))
+
+pub returns-in-None-head-clause-unchanged : goal.returns-in-None-head-clause-unchanged
+returns-in-None-head-clause-unchanged g c e = (prepares c.self.inside c.args.self.now c.self.view_is c.self.invariant
+    c.ready-unmade.new.cells c.ready-unmade.result c.ready-unmade.ensures.at
+    c.ready-unmade.ensures.ready).is
+
+pub returns-in-Some-clause-unchanged : goal.returns-in-Some-clause-unchanged
+returns-in-Some-clause-unchanged g c e = absurd (true≢false e)

@@ -126,6 +126,7 @@ gives-back g c =
       at = c.free_chunk.ensures.at ∙ c.take_out.ensures.at;
       first = refl;
       count = refl;
+      unmade = refl;
       deed = c.self.invariant.deed;
     })
     c.link_beside-newer.result c.link_beside-newer.ensures.place
@@ -159,6 +160,7 @@ invariant_of-self-else-chain-gt1 g c =
       at = c.take_out.ensures.at;
       first = refl;
       count = refl;
+      unmade = refl;
       deed = c.self.invariant.deed;
     }) refl refl refl).kept
 
@@ -179,6 +181,7 @@ invariant_of-self-else-take_out-eq0 g c =
       at = c.take_out.ensures.at;
       first = refl;
       count = refl;
+      unmade = refl;
       deed = c.self.invariant.deed;
     }) refl refl refl).kept
 
@@ -200,6 +203,7 @@ left g c = elim c.else-take_out-eq0.branch [
         at = c.take_out.ensures.at;
         first = refl;
         count = refl;
+        unmade = refl;
         deed = c.self.invariant.deed;
       }) refl refl refl)
   | else-take_out-eq0-via-else-take_out-eq0 w ↦
@@ -218,6 +222,7 @@ left g c = elim c.else-take_out-eq0.branch [
         at = c.take_out.ensures.at;
         first = refl;
         count = refl;
+        unmade = refl;
         deed = c.self.invariant.deed;
       }) refl refl refl)
 ]

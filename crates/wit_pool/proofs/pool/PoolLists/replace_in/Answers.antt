@@ -3,7 +3,8 @@ use Rattle.std.proofs.lemmas.List.{set-get_or}
 use Rattle.wit_model.specs.Rules.Groups.{replaced_in}
 use Rattle.wit_model.specs.Rules.Chunks.{groups_of, set_groups}
 use Rattle.wit_pool.specs.Chunks.{chunk_at, content, IsRegrouped}
-use Rattle.wit_pool.specs.Kept.{rows_of, lists_of, free_of}
+use Rattle.wit_pool.specs.Kept.{rows_of, lists_of, spare_of}
+use Rattle.wit_pool.proofs.Links.{bare-regrouped}
 use Rattle.wit_pool.proofs.Standing.{regrouped}
 use Rattle.wit_pool.proofs.Keeping.{stands, chunk-within, is-at, in-content, replaces}
 use Rattle.wit_pool.proofs.Leaving.{IsLeft}
@@ -38,6 +39,7 @@ left : (g : Over) (c : goal.After-put_at g)
     (record {
       chains = c.self.inside.chains;
       free = c.self.inside.free;
+      unmade = c.self.inside.unmade;
       first = c.self.inside.first;
       count = c.self.inside.count;
       cells = c.put_at.new.cells;
@@ -57,6 +59,7 @@ left g c =
     (record {
       chains = c.self.inside.chains;
       free = c.self.inside.free;
+      unmade = c.self.inside.unmade;
       first = c.self.inside.first;
       count = c.self.inside.count;
       cells = c.put_at.new.cells;
@@ -64,14 +67,22 @@ left g c =
       alloc =
           c.self.inside.alloc;
     })
-    (record { at = c.put_at.ensures.at; first = refl; count = refl; deed = c.self.invariant.deed })
-    c.args.spot.chunk held (get_or (lists_of v) (c.args.list - 1) []) (free_of v)
+    (record {
+      at = c.put_at.ensures.at;
+      first = refl;
+      count = refl;
+      unmade = refl;
+      deed = c.self.invariant.deed;
+    })
+    c.args.spot.chunk held (get_or (lists_of v) (c.args.list - 1) []) (spare_of v)
     (set_groups c.args.self.now c.args.list
     (replaced_in c.args.spot.group c.args.index c.args.instance
     (groups_of c.args.self.now c.args.list)))
     (lists_of v) (sym (set-get_or (lists_of v) (c.args.list - 1) []))
-    (regrouped v.cells.at v.cells.slots v.chains.items v.free (rows_of v) (lists_of v) (free_of v)
+    (regrouped v.cells.at v.cells.slots v.chains.items v.free (rows_of v) (lists_of v) (spare_of v)
     (stands v c.args.self.now c.self.view_is c.self.invariant) c.put_at.new.cells.slots
+    c.args.spot.chunk held put)
+    (bare-regrouped v.cells.at v.cells.slots v.unmade c.self.invariant.bare c.put_at.new.cells.slots
     c.args.spot.chunk held put)
     (replaces v c.args.self.now c.self.view_is c.self.invariant c.args.list c.requires.list
     c.args.spot c.requires.spot c.args.index c.requires.index c.args.instance)
