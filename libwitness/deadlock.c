@@ -8,8 +8,8 @@
 #include "judge.h"
 #include "judge_place.h"
 #include "names.h"
-#include "place_text.h"
 #include "report_action.h"
+#include "told_lines.h"
 
 #include <stdlib.h>
 #include <string.h>
@@ -74,18 +74,17 @@ bool judge_sees_circle(const struct request *request)
     return action != UNWATCHED && request->pending && circle_of(request->thread, seats) > 0;
 }
 
-static size_t put_waits(char *to, size_t room, struct wit_place *place, uint16_t seat)
+static void put_waits(struct lines *lines, struct wit_place *place, uint16_t seat)
 {
-    char file[FILE_ROOM], place_there[FILE_ROOM + 16], where[FILE_ROOM + 32];
-    name_file(file, asked[seat].place);
-    snprintf(place_there, sizeof place_there, "%s:%u", file, place_line(asked[seat].place));
-    told_where(where, sizeof where, place_there);
-    int length = snprintf(to, room, "seat %u, thread %ld, waits%s %s and holds:\n", seat, asked[seat].thread,
-        asked[seat].for_a_time ? " with a time limit" : "", where);
-    if (length < 0 || (size_t)length >= room)
-        return 0;
-    int64_t held = wit_locks_text(place, seat, to + length, room - (size_t)length);
-    return held < 0 || (size_t)(length + held) > room ? 0 : (size_t)(length + held);
+    char text[PLACE_ROOM + 64];
+    struct lines waits = {text, sizeof text, 0};
+    size_t before = lines->length;
+    put_words(&waits, ", thread %ld, waits%s ", asked[seat].thread, asked[seat].for_a_time ? " with a time limit" : "");
+    put_place(&waits, asked[seat].place);
+    put_words(&waits, " and");
+    put_seat(lines, place, seat, text);
+    if (lines->length >= lines->room)
+        lines->length = before;
 }
 
 /* The verifier's words, and then where each of the circle waits and took what it holds. */
@@ -96,14 +95,15 @@ static void keep_circle(const uint16_t *seats, int64_t count)
     int64_t length = wit_circle_text(place, text, sizeof text);
     if (length < 0 || (size_t)length > sizeof text)
         return;
+    struct lines lines = {text, sizeof text, (size_t)length};
     may_end = false;
     for (int64_t i = 0; i < count; i++) {
-        length += (int64_t)put_waits(text + length, sizeof text - (size_t)length, place, seats[i]);
+        put_waits(&lines, place, seats[i]);
         may_end |= asked[seats[i]].for_a_time;
     }
-    char *kept = report_kept(WITNESS_DEADLOCK, (size_t)length);
+    char *kept = report_kept(WITNESS_DEADLOCK, lines.length);
     if (kept)
-        memcpy(kept, text, (size_t)length);
+        memcpy(kept, text, lines.length);
 }
 
 static void keep_itself(const struct request *request)

@@ -1,6 +1,7 @@
 /*
  * Gives the verifier each line of the stream while it is written, under the recorder's mutex. Locks and seats have the
- * stream's numbers: both count the lines of `init`. The head of recorder/runtime/write.c says why the lines are a legal history.
+ * stream's numbers: both count the lines of `init`. A place is a line of one file, which has the place's number.
+ * The head of recorder/runtime/write.c says why the lines are a legal history.
  *
  * The verifier is made at the first line. So a program, or a child of fork, that never asks for a second lock has none.
  */
@@ -9,6 +10,7 @@
 #include "judge_place.h"
 #include "names.h"
 #include "report_action.h"
+#include "told_lines.h"
 
 #include <stdlib.h>
 #include <string.h>
@@ -19,10 +21,12 @@
  */
 enum { CHUNKS = SEATS * (HELD_MOST / 5 + 1), JUDGED_LOG = 1 << 22 };
 
+/* The file whose lines are places. */
+enum { PLACES_FILE = 1 };
+
 static struct wit_place place;
 static enum { UNBORN, JUDGES, OVER } state;
-/* The file's number of each place, 0 where it has none yet. */
-static uint16_t files[PLACES + 1];
+static uint32_t numbers_in_type[LOCKS + 1]; /* by the verifier's numbers of locks */
 
 /* News: what the stream has no room for, each told once and counted; and those of enum news. */
 _Atomic uint32_t judge_news;
@@ -90,12 +94,19 @@ static int64_t made_with(const struct lists *lists)
     return wit_new(&place, &sizes, true, lists->lists, 0, lists->pairs, lists->pairs_count, &refused);
 }
 
+/* With the file that all places are of. */
+static int64_t made(void)
+{
+    int64_t answer = made_with(lists_named());
+    return answer < 0 ? answer : wit_file(&place, "places", strlen("places"));
+}
+
 static bool is_judged(void)
 {
     if (state == OVER)
         return false;
     if (state == UNBORN) {
-        int64_t answer = made_with(lists_named());
+        int64_t answer = made();
         if (answer < 0)
             ends(answer);
         else
@@ -119,21 +130,22 @@ void judge_forked(void)
     if (state == UNBORN)
         return;
     wit_free(&place);
-    memset(files, 0, sizeof files);
     names_forgotten();
     orders_forked();
     state = UNBORN;
 }
 
-/* The text of the report that the verifier's last call was answered. */
-static void keep_report(int64_t answer)
+/* What the verifier's last call was answered, which is a report. */
+static void keep_report(void)
 {
-    char none[1];
-    int64_t length = wit_report_text(&place, none, 0);
-    enum witness_kind kind = answer == WIT_REVERSAL ? WITNESS_REVERSAL : WITNESS_DUPLICATE;
-    char *text = length > 0 ? report_kept(kind, (size_t)length) : NULL;
-    if (text && wit_report_text(&place, text, (size_t)length) == length)
+    struct lines counted = {NULL, 0, 0};
+    struct wit_report report;
+    enum witness_kind kind = wit_report(&place, &report) == WIT_REVERSAL ? WITNESS_REVERSAL : WITNESS_DUPLICATE;
+    char *text = put_report(&counted, &place) ? report_kept(kind, counted.length) : NULL;
+    if (text && put_report(&(struct lines){text, counted.length + 1, 0}, &place)) {
+        report_is_at(report.held.line, report.asked.line);
         return;
+    }
     if (text)
         report_dropped();
     ends(WIT_OUT_OF_MEMORY);
@@ -144,7 +156,17 @@ static void took(int64_t answer)
     if (UNLIKELY(answer < 0))
         ends(answer);
     else if (UNLIKELY(answer == WIT_REVERSAL || answer == WIT_DUPLICATE))
-        keep_report(answer);
+        keep_report();
+}
+
+uint8_t judged_class(const struct lock *lock)
+{
+    return lock->type->class == RWLOCK || lock->type->class == TOLD_RWLOCK ? WIT_RW : WIT_SLEEP_MUTEX;
+}
+
+uint32_t judged_number(uint32_t lock)
+{
+    return lock <= LOCKS ? numbers_in_type[lock] : 0;
 }
 
 void judge_made(const struct thread *thread, const struct lock *lock)
@@ -155,45 +177,28 @@ void judge_made(const struct thread *thread, const struct lock *lock)
     uint32_t type = *mark(&lock->type->marks);
     const char *of = *type_name(type) ? type_name(type) : name_type(lock->type, type);
     name_lock(name, lock, of);
-    int64_t made = wit_init(&place, (uint16_t)thread->seat, name, strlen(name), of, strlen(of),
-        lock->type->class == RWLOCK || lock->type->class == TOLD_RWLOCK ? WIT_RW : WIT_SLEEP_MUTEX,
+    int64_t number = wit_init(&place, (uint16_t)thread->seat, name, strlen(name), of, strlen(of), judged_class(lock),
         (uint8_t)((lock->recursive ? WIT_LOCK_RECURSABLE : 0) | (is_doubled(of) ? WIT_LOCK_DUPOK : 0)));
-    if (made < 0)
-        ends(made);
-    else
-        orders_made(thread, atomic_load(&lock->address), (uint32_t)made);
-}
-
-/* The number of the place as a file, 0 where it can't have one. A place of the code is told by its file's name alone. */
-static uint16_t file_of(uint32_t at)
-{
-    char name[FILE_ROOM];
-    if (files[at] == 0) {
-        name_file(name, at);
-        int64_t number = wit_file(&place, name, strlen(name));
-        if (number < 0) {
-            ends(number);
-            return 0;
-        }
-        files[at] = (uint16_t)number;
+    if (number < 0) {
+        ends(number);
+        return;
     }
-    return files[at];
+    numbers_in_type[number] = number_in_type(lock);
+    orders_made(thread, atomic_load(&lock->address), (uint32_t)number);
 }
 
 void judge_asked(const struct thread *thread, uint32_t lock, uint8_t mode, uint32_t at)
 {
-    uint16_t file = is_judged() ? file_of(at) : 0;
-    if (!file)
+    if (!is_judged())
         return;
     deadlock_asked(thread, at);
-    took(wit_check(&place, (uint16_t)thread->seat, lock, mode == EXCLUSIVE, WIT_OP_NEWORDER, file, place_line(at)));
+    took(wit_check(&place, (uint16_t)thread->seat, lock, mode == EXCLUSIVE, WIT_OP_NEWORDER, PLACES_FILE, at));
 }
 
 void judge_tried(const struct thread *thread, uint32_t lock, uint8_t mode, uint32_t at)
 {
-    uint16_t file = is_judged() ? file_of(at) : 0;
-    if (file)
-        took(wit_note_try(&place, (uint16_t)thread->seat, lock, mode == EXCLUSIVE, file, place_line(at)));
+    if (is_judged())
+        took(wit_note_try(&place, (uint16_t)thread->seat, lock, mode == EXCLUSIVE, PLACES_FILE, at));
 }
 
 void judge_got(const struct thread *thread, uint32_t lock)

@@ -8,6 +8,10 @@
 /* The verifier, NULL where nothing is judged any more. */
 struct wit_place *judged_place(void);
 
+/* The class that a lock has with the verifier; and the number in its type (names.h) of the lock with that number. */
+uint8_t judged_class(const struct lock *lock);
+uint32_t judged_number(uint32_t lock);
+
 /* What is told once, when the mutex is left. After these come the stream's own limits (judge.c). */
 enum news { NEWS_OVER = MISSES, NEWS_LISTS, NEWS_AGAINST, NEWS_ONE_TYPE, NEWS_UNDEFINED };
 void judge_has_news(enum news what);

@@ -1,9 +1,11 @@
 /*
- * The names under which the verifier knows types, locks and places: the variable that a lock stands in, else the
- * functions that made it, and OBJECT+0xOFFSET(FUNCTION+0xWITHIN) for a place (told.h tells it otherwise). The file of
- * --ignore of `record` may have them. What the program names by itself has that name: a type, and a place by its file and line.
+ * The names of types, locks and places: the variable that a lock stands in, else the functions that made it. Few
+ * people read offsets in objects, so a place has its function first. What the program names by itself has that name: a
+ * type, and a place by its file and line.
  */
 #include "names.h"
+
+#include "code_words.h"
 #include "label.h"
 
 #include <stdio.h>
@@ -82,7 +84,7 @@ static const char *add_parts(char *to, size_t room, const char *at)
 /* A name as the source has it, where it is C or plain C++; else as the object has it. */
 static void add_name(char *to, size_t room, const char *name)
 {
-    char plain[FILE_ROOM] = "";
+    char plain[PLACE_ROOM] = "";
     const char *at = name + 2;
     bool nested = false, is_whole = false;
     if (strncmp(name, "_Z", 2) == 0) {
@@ -152,27 +154,60 @@ static void add_caller(char *to, size_t room, const struct place *place)
     }
 }
 
-void name_place(char to[FILE_ROOM], uint32_t number)
+/* FUNCTION+0xWITHIN (OBJECT). False where there is no room for all of it. */
+static bool put_function(char to[PLACE_ROOM], const struct place *place)
+{
+    char object[PLACE_ROOM] = "";
+    add(object, PLACE_ROOM, object_name(place->object));
+    clean(object, '!');
+    struct code_words words = {.object = object, .object_length = strlen(object)};
+    object[code_object_told(&words)] = '\0';
+    add_name(to, PLACE_ROOM, place->name);
+    if (place->within > 0)
+        add_offset(to, PLACE_ROOM, place->within - 1);
+    clean(to, '!');
+    add(to, PLACE_ROOM, " (");
+    add(to, PLACE_ROOM, object);
+    add(to, PLACE_ROOM, ")");
+    return strlen(to) < PLACE_ROOM - 1;
+}
+
+/* What is told of it where its function isn't told first: the file and line, or the object and the offset. */
+static void put_offset(char to[PLACE_ROOM], const struct place *place)
+{
+    *to = '\0';
+    if (place->file) {
+        add_site(to, PLACE_ROOM, place);
+    } else {
+        add(to, PLACE_ROOM, object_name(place->object));
+        add_offset(to, PLACE_ROOM, place_offset(place));
+    }
+    if (*place->name) {
+        add(to, PLACE_ROOM, "(");
+        add_name(to, PLACE_ROOM, place->name);
+        add(to, PLACE_ROOM, ")");
+    }
+    clean(to, '!');
+}
+
+void name_place(char to[PLACE_ROOM], uint32_t number)
 {
     const struct place *place = number ? told_place(number) : NULL;
     *to = '\0';
-    if (!place) {
-        add(to, FILE_ROOM, "?");
+    if (!place)
+        add(to, PLACE_ROOM, "?");
+    else if (place->file || !*place->name || !put_function(to, place))
+        put_offset(to, place);
+}
+
+void name_site(char to[PLACE_ROOM], uint32_t number)
+{
+    if (!is_place_by_name(number)) {
+        name_place(to, number);
         return;
     }
-    if (place->file) {
-        add_site(to, FILE_ROOM, place);
-    } else {
-        add(to, FILE_ROOM, object_name(place->object));
-        add_offset(to, FILE_ROOM, place_offset(place));
-    }
-    if (*place->name) {
-        add(to, FILE_ROOM, "(");
-        add_name(to, FILE_ROOM, place->name);
-        if (!place->file && place->within > 0)
-            add_offset(to, FILE_ROOM, place->within - 1);
-        add(to, FILE_ROOM, ")");
-    }
+    *to = '\0';
+    add_site(to, PLACE_ROOM, place_at(number));
     clean(to, '!');
 }
 
@@ -188,20 +223,9 @@ bool is_place_by_name(uint32_t number)
     return number && place_at(number)->file;
 }
 
-void name_file(char to[FILE_ROOM], uint32_t number)
+bool is_place_in_code(uint32_t number)
 {
-    if (!is_place_by_name(number)) {
-        name_place(to, number);
-        return;
-    }
-    *to = '\0';
-    add(to, FILE_ROOM, place_at(number)->file);
-    clean(to, '!');
-}
-
-uint32_t place_line(uint32_t number)
-{
-    return is_place_by_name(number) ? (uint32_t)place_at(number)->offset : 0;
+    return number && !told_place(number)->file;
 }
 
 const char *place_function(uint32_t number)
@@ -281,6 +305,11 @@ void names_forgotten(void)
         *type_names[type] = '\0';
 }
 
+uint32_t number_in_type(const struct lock *lock)
+{
+    return !lock->type->object && lock->name->number > 1 ? lock->name->number : 0;
+}
+
 void name_lock(char to[NAME_ROOM], const struct lock *lock, const char *name_of_type)
 {
     const struct type *type = lock->type;
@@ -290,7 +319,7 @@ void name_lock(char to[NAME_ROOM], const struct lock *lock, const char *name_of_
     if (type->object && address != type->address) {
         add_variable(to, NAME_ROOM, type->object, address);
         clean(to, ' ');
-    } else if (!type->object && lock->name->number > 1) {
+    } else if (number_in_type(lock)) {
         snprintf(tail, sizeof tail, "/%u", lock->name->number);
         put_with_tail(to, name_of_type, tail);
     } else {

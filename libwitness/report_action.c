@@ -8,7 +8,6 @@
 
 #include "judge.h"
 #include "names.h"
-#include "place_text.h"
 #include "verifier.h"
 
 #include <errno.h>
@@ -17,7 +16,7 @@
 #include <sys/syscall.h>
 #include <unistd.h>
 
-/* Room after the verifier's text for the callers, and for two places. */
+/* Room after the report's own text for the callers. */
 enum { CALLERS_ROOM = 4096, CALLERS_MOST = 8 };
 
 enum action { TELLS, STOPS, TRAPS, ABORTS, EXITS };
@@ -25,8 +24,8 @@ enum action { TELLS, STOPS, TRAPS, ABORTS, EXITS };
 struct report {
     struct report *next;
     struct witness_report shown;
-    size_t length; /* of the verifier's text */
-    char held[FILE_ROOM + 16], asked[FILE_ROOM + 16];
+    size_t length; /* of its own text */
+    char held[PLACE_ROOM], asked[PLACE_ROOM];
     char text[];
 };
 
@@ -78,47 +77,31 @@ char *report_kept(enum witness_kind kind, size_t length)
     *last = report;
     report->next = NULL;
     report->length = length;
-    report->shown.kind = kind;
-    report->text[length] = '\0';
+    report->held[0] = report->asked[0] = report->text[length] = '\0';
+    report->shown = (struct witness_report){kind, report->text, report->held, report->asked};
     return report->text;
 }
 
-void report_dropped(void)
+static struct report **last_kept(void)
 {
     struct report **last = &kept;
     while ((*last)->next)
         last = &(*last)->next;
+    return last;
+}
+
+void report_is_at(uint32_t held, uint32_t asked)
+{
+    struct report *report = *last_kept();
+    name_site(report->held, held);
+    name_site(report->asked, asked);
+}
+
+void report_dropped(void)
+{
+    struct report **last = last_kept();
     rattle_dealloc(*last);
     *last = NULL;
-}
-
-/* Copies the place of the text's line that begins so; false where no line does. */
-static bool place_in(const char *text, const char *begin, char to[FILE_ROOM + 16])
-{
-    const char *line = strstr(text, begin), *end = line ? strchr(line + 1, '\n') : NULL;
-    const char *place = NULL;
-    *to = '\0';
-    for (const char *at = line; at && end && at < end; at++)
-        if (strncmp(at, " @ ", 3) == 0)
-            place = at + 3;
-    if (!place)
-        return false;
-    snprintf(to, FILE_ROOM + 16, "%.*s", (int)(end - place), place);
-    return true;
-}
-
-static void find_places(struct report *report)
-{
-    bool has_older = place_in(report->text, "\n 3rd ", report->asked);
-    report->held[0] = '\0';
-    place_in(report->text, has_older ? "\n 2nd " : "\n 1st ", report->held);
-    if (!has_older)
-        place_in(report->text, "\n 2nd ", report->asked);
-    told_place(report->held, sizeof report->held);
-    told_place(report->asked, sizeof report->asked);
-    report->shown.text = report->text;
-    report->shown.held = report->held;
-    report->shown.asked = report->asked;
 }
 
 /* Where a thread begins there is nothing of the program. The C library's names for that are mostly not there. */
@@ -128,18 +111,17 @@ static bool is_told(const char *function)
         && strcmp(function, "start_thread") != 0 && strncmp(function, "__clone", 7) != 0;
 }
 
-/* Who asks, and from where: below the verifier's text. */
+/* Who asks, and from where: below the report's own text. */
 static size_t callers_put(char *to, size_t room, struct caller caller)
 {
     uint32_t found[CALLERS_MOST], count = callers(caller, CALLERS_MOST, found);
-    char name[THREAD_NAME_ROOM], place[FILE_ROOM];
+    char name[THREAD_NAME_ROOM], place[PLACE_ROOM];
     name_thread(name);
     int length = snprintf(to, room, "asked by thread %ld (%s):\n", syscall(SYS_gettid), name);
     for (uint32_t i = 0; i < count && found[i]; i++) {
         if (!is_place_by_name(found[i]) && !is_told(place_function(found[i])))
             continue;
         name_place(place, found[i]);
-        told_place(place, sizeof place);
         length += snprintf(to + length, room - (size_t)length, " %s\n", place);
     }
     return (size_t)length;
@@ -190,11 +172,7 @@ static void tell_text(void *argument)
 {
     const struct telling *it = argument;
     struct report *report = it->report;
-    find_places(report);
-    size_t length = told_text(report->text, report->length);
-    report->length = length;
-    report->text[length] = '\0';
-    length += callers_put(report->text + length, CALLERS_ROOM, it->caller);
+    size_t length = report->length + callers_put(report->text + report->length, CALLERS_ROOM, it->caller);
     tell(report->text, length);
     report->text[report->length] = '\0';
 }

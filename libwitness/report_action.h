@@ -13,6 +13,8 @@ void reports_begin(void);
  * it. NULL without memory. Under the mutex.
  */
 char *report_kept(enum witness_kind kind, size_t length);
+/* Where the lock that is held was acquired, and where the other one is asked for, of the last one that was kept. */
+void report_is_at(uint32_t held, uint32_t asked);
 /* The last one that was kept isn't told after all. Under the mutex. */
 void report_dropped(void);
 void reports_forked(void);

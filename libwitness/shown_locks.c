@@ -3,86 +3,74 @@
 #include "judge_place.h"
 #include "libwitness.h"
 #include "names.h"
-#include "place_text.h"
-#include "report_action.h"
+#include "told_lines.h"
 
 #include <errno.h>
 #include <string.h>
 #include <unistd.h>
 
-enum { HELD_ROOM = 1 << 16 };
+enum { MORE_HELD = 1 << 16 };
 
-/* A text that is put together under the mutex, and written outside. */
-struct shown {
-    char *text;
-    size_t length, room;
-};
-
-static bool has_room(struct shown *shown, size_t more)
+/* Mutexes say who holds them; of other locks only the verifier tells. */
+static void put_holders(struct lines *lines)
 {
-    struct rattle_memory memory;
-    size_t room = shown->length + more + HELD_ROOM;
-    if (shown->length + more <= shown->room)
-        return true;
-    memory = shown->text ? rattle_realloc(shown->text, shown->room, room, 1) : rattle_alloc(room, 1);
-    if (!memory.ok)
-        return false;
-    shown->text = memory.at;
-    shown->room = room;
-    return true;
-}
-
-static void put(struct shown *shown, const char *text)
-{
-    size_t length = strlen(text);
-    if (length == 0 || !has_room(shown, length))
-        return;
-    memcpy(shown->text + shown->length, text, length);
-    shown->length += length;
-}
-
-/* A text of the verifier's. */
-static void put_text_of(struct shown *shown, struct wit_place *place, int64_t (*text)(struct wit_place *, char *, size_t))
-{
-    char none[1];
-    int64_t length = text(place, none, 0);
-    if (length <= 0 || !has_room(shown, (size_t)length))
-        return;
-    if (text(place, shown->text + shown->length, (size_t)length) == length)
-        shown->length += told_text(shown->text + shown->length, (size_t)length);
-}
-
-/* Mutexes say who holds them; of other locks only the verifier's text tells. */
-static void put_holders(struct shown *shown)
-{
-    char name[NAME_ROOM], of[NAME_ROOM], line[2 * NAME_ROOM];
+    char name[NAME_ROOM], of[NAME_ROOM];
     int32_t holder;
-    put(shown, "held now:\n");
+    put_words(lines, "held now:\n");
     for (uint32_t at = 0; at < LOCKS_ALIVE; at++) {
         const struct lock *lock = lock_held_from(&at, &holder);
         if (!lock)
             break;
         name_any(name, of, lock);
-        snprintf(line, sizeof line, " \"%s\" by thread %d\n", name, (int)holder);
-        put(shown, line);
+        put_words(lines, " \"%s\" by thread %d\n", name, (int)holder);
     }
 }
 
-static void collect(struct shown *shown)
+/* The verifier's own text. */
+static void put_orders(struct lines *lines, struct wit_place *place)
 {
-    struct wit_place *place = judged_place();
-    put_holders(shown);
-    if (!place)
-        return;
-    put_text_of(shown, place, wit_all_locks_text);
-    put(shown, "orders:\n");
-    put_text_of(shown, place, wit_graph_text);
+    char none[1];
+    put_words(lines, "orders:\n");
+    size_t room = lines->length < lines->room ? lines->room - lines->length : 0;
+    int64_t length = wit_graph_text(place, room > 0 ? lines->to + lines->length : none, room);
+    lines->length += length > 0 ? (size_t)length : 0;
 }
 
-static void write_out(int file, const struct shown *shown)
+static void collect(struct lines *lines)
 {
-    for (size_t at = 0; at < shown->length;) {
-        ssize_t written = write(file, shown->text + at, shown->length - at);
+    struct wit_place *place = judged_place();
+    put_holders(lines);
+    if (!place)
+        return;
+    for (uint16_t seat = 1; seat <= SEATS; seat++)
+        put_seat(lines, place, seat, "");
+    put_words(lines, "free chunks: %ld\n", (long)wit_free_chunks(place));
+    put_orders(lines, place);
+}
+
+/*
+ * All of it, once it is known how long that is; no text without memory. Mutexes are taken meanwhile: some more may be held at
+ * the second look.
+ */
+static struct lines collected(void)
+{
+    struct lines counted = {NULL, 0, 0};
+    collect(&counted);
+    size_t room = counted.length + MORE_HELD;
+    struct rattle_memory memory = rattle_alloc(room, 1);
+    struct lines lines = {memory.ok ? memory.at : NULL, memory.ok ? room : 0, 0};
+    if (!memory.ok)
+        return lines;
+    collect(&lines);
+    if (lines.length >= room)
+        lines.length = room - 1;
+    return lines;
+}
+
+static void write_out(int file, const struct lines *lines)
+{
+    for (size_t at = 0; at < lines->length;) {
+        ssize_t written = write(file, lines->to + at, lines->length - at);
         if (written <= 0 && !(written < 0 && errno == EINTR))
             return;
         at += written > 0 ? (size_t)written : 0;
@@ -91,16 +79,16 @@ static void write_out(int file, const struct shown *shown)
 
 EXPORT void witness_show(int file)
 {
-    struct shown shown = {NULL, 0, 0};
+    struct lines lines = {NULL, 0, 0};
     if (!chain_opens(HERE))
         return;
     if (recorder_enters()) {
-        collect(&shown);
+        lines = collected();
         recorder_leaves();
-        write_out(file, &shown);
+        write_out(file, &lines);
     }
-    if (shown.text && recorder_enters()) {
-        rattle_dealloc(shown.text);
+    if (lines.to && recorder_enters()) {
+        rattle_dealloc(lines.to);
         recorder_leaves();
     }
     self.state = OPEN;

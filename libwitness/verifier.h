@@ -1,6 +1,6 @@
 /*
  * The proved verifier for programs in C and C++: the calls of crates/wit_c, which its static library exports. Each call
- * is given the place in which the caller holds a verifier, and answers a number:
+ * (but wit_asserted) is given the place in which the caller holds a verifier, and answers a number:
  *
  *   from 0         what the call was answered (below)
  *   -1 to -36      the fault by which it was refused: -6 is F6 of docs/RULES.md. Nothing has changed
@@ -164,13 +164,24 @@ int64_t wit_set_watch(struct wit_place *place, uint16_t seat, int32_t level);
 /* What a seat's assertion comes to: WIT_HOLDS to WIT_IS_RECURSED. */
 int64_t wit_assert(struct wit_place *place, uint16_t seat, uint32_t lock, uint8_t flags);
 
+/*
+ * What it comes to where everything is watched and the seat holds the lock so, having acquired it again COUNT times; or
+ * where it doesn't hold it, and the next two are passed over. That is for a caller who knows it by himself: no verifier is
+ * asked, and the call may be made at any time.
+ */
+int64_t wit_asserted(bool held, bool exclusive, uint16_t count, uint8_t flags);
+
 /* How many locks a seat holds where it should hold none but NAMED (0 names none), or such as the flags allow. */
 int64_t wit_warn(struct wit_place *place, uint16_t seat, uint32_t named, uint8_t flags);
 
-/* How much was reported; how much is watched, of which WIT_WATCH_OFF is no fault; the type of a lock, from 1, or 0. */
+/*
+ * How much was reported; how much is watched, of which WIT_WATCH_OFF is no fault; the type of a lock, from 1, or 0; how many
+ * chunks no seat has.
+ */
 int64_t wit_reports(struct wit_place *place);
 int64_t wit_watch(struct wit_place *place);
 int64_t wit_type_of(struct wit_place *place, uint32_t lock);
+int64_t wit_free_chunks(struct wit_place *place);
 
 /*
  * Texts, into a buffer of this many bytes. The whole text's length is answered, and as much of it as there is room for
@@ -198,6 +209,63 @@ int64_t wit_circle_text(struct wit_place *place, char *to, size_t room);
  */
 int64_t wit_circle(struct wit_place *place, uint16_t *to, size_t room);
 int64_t wit_path(struct wit_place *place, uint16_t from, uint16_t goal, uint16_t *to, size_t room);
+
+/* A lock, and where it was acquired or is asked for. All zeroes where there is none. */
+struct wit_lock_at {
+    uint32_t lock;
+    uint32_t type_number;
+    uint32_t class_number;
+    uint32_t file;
+    uint32_t line;
+};
+
+enum { WIT_ORDER = 0, WIT_SLEEPABLE = 1, WIT_GIANT = 2 }; /* which rule a reversal breaks */
+
+struct wit_report {
+    uint32_t heading; /* of a reversal; else 0 */
+    uint32_t seat;    /* who made the call */
+    struct wit_lock_at held;
+    struct wit_lock_at asked;
+    struct wit_lock_at third; /* an older held lock of the type that is asked for, where there is one */
+};
+
+enum { WIT_LISTED = 1, WIT_DEFINED = 2, WIT_REQUESTED = 3 }; /* where an order comes from */
+
+/* Two types, the first of which is before the second one. */
+struct wit_order {
+    uint32_t first;
+    uint32_t second;
+    uint32_t origin;
+    uint32_t file; /* of the request, else 0 */
+    uint32_t line;
+};
+
+struct wit_held {
+    struct wit_lock_at at;
+    uint32_t exclusive; /* 1, or 0 of one that is held shared */
+    uint32_t count;     /* how often it was acquired again */
+};
+
+/*
+ * What the texts tell, as numbers. The verifier isn't changed.
+ *
+ * wit_report is the report of the last call (of which see wit_report_text): WIT_REVERSAL, WIT_DUPLICATE or WIT_EXHAUSTED,
+ * and 0 where nothing was reported, or before the first call. TO is all zeroes then, and so are the locks of WIT_EXHAUSTED.
+ * It takes no memory.
+ *
+ * wit_report_path is the established order that a reversal goes against, step by step, from the type of ASKED to that of
+ * HELD; wit_held is what a seat holds, in the sequence of wit_locks_text. They are lists, into a buffer of so many, in the
+ * same way as those above: 0 says that no path leads there or no reversal was reported, and that the seat holds nothing or
+ * there is no such seat.
+ */
+int64_t wit_report(struct wit_place *place, struct wit_report *to);
+int64_t wit_report_path(struct wit_place *place, struct wit_order *to, size_t room);
+int64_t wit_held(struct wit_place *place, uint16_t seat, struct wit_held *to, size_t room);
+
+/* Names, as texts above, but for WIT_OUT_OF_MEMORY: they take none. A number that was never given has the empty name. */
+int64_t wit_lock_name(struct wit_place *place, uint32_t lock, char *to, size_t room);
+int64_t wit_type_name(struct wit_place *place, uint16_t type_number, char *to, size_t room);
+int64_t wit_file_name(struct wit_place *place, uint16_t file, char *to, size_t room);
 
 /*
  * The heap. `rattle_alloc` gives memory that is aligned to 16; `rattle_realloc` keeps what was there, up to the less of both

@@ -62,6 +62,10 @@ static void try_shared(void)
     pthread_rwlock_rdlock(&table);
     printf("shared: %d\n", witness_assert(&table, WITNESS_SLOCKED));
     printf("%d\n", witness_assert(&table, WITNESS_XLOCKED));
+    pthread_rwlock_rdlock(&table);
+    printf("twice: %d\n", witness_assert(&table, WITNESS_SLOCKED | WITNESS_RECURSED));
+    printf("%d\n", witness_assert(&table, WITNESS_LOCKED | WITNESS_NOTRECURSED));
+    pthread_rwlock_unlock(&table);
     pthread_rwlock_unlock(&table);
 }
 
@@ -74,6 +78,8 @@ static void try_warnings(void)
     printf("warned of %d\n", witness_warn("before a callback"));
     pthread_mutex_unlock(&pool);
     printf("warned of %d\n", witness_warn(NULL));
+    /* The program's own words stay as they are. */
+    printf("warned of %d\n", witness_warn("as told @ pool.c(put):0\nand @ pool+0x1(put+0x2):0\nhere"));
     pthread_mutex_unlock(&journal);
     pthread_rwlock_unlock(&table);
 }

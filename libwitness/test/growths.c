@@ -110,6 +110,9 @@ static void take_all(void)
 
 static void tell_all(void)
 {
+    struct wit_report report;
+    struct wit_order step;
+    struct wit_held held;
     uint16_t numbers[2];
 
     SAYS("lock order reversal:\n"
@@ -118,6 +121,10 @@ static void tell_all(void)
          "established order:\n"
          " \"A\" -> \"B\" @ f:2\n",
         wit_report_text(&place, to, room));
+    CALL(WIT_REVERSAL, wit_report(&place, &report));
+    CALL(1, wit_report_path(&place, &step, 1));
+    CALL(1, wit_held(&place, 2, &held, 1));
+    SAYS("b", wit_lock_name(&place, report.held.lock, to, room));
     CALL(WIT_PASS, check(&place, 1, 2, true, 6));
     CALL(2, wit_circle(&place, numbers, 2));
     SAYS("circle:\n"

@@ -27,6 +27,6 @@ if wanted limits; then
     WITNESS_ON_DEADLOCK=tell ./waits >out 2>err && grep -q '^exclusive sleep mutex "pool"' out
     tell limits "but where deadlocks are looked for" $?
     compile no_memory $linked && ./no_memory >out 2>err
-    [ "$(cat out)" = "1 1 0" ] && [ "$(cat err)" = "witness: no memory for the verifier: nothing is judged from here on" ]
+    [ "$(cat out)" = "1 1 0 0" ] && [ "$(cat err)" = "witness: no memory for the verifier: nothing is judged from here on" ]
     tell limits "no memory for the verifier" $?
 fi

@@ -83,6 +83,7 @@ int main(void)
 {
     try_orders();
     try_seats();
+    try_told();
     try_refusals();
     try_growths();
     IS(0, blocks_out);

@@ -1,4 +1,7 @@
-/* From the first line on the system gives no further memory: the verifier can't be made, and the program goes on. */
+/*
+ * From the first line on the system gives no further memory: the verifier can't be made, and the program goes on. What it
+ * asserts is answered all the same.
+ */
 #include <libwitness.h>
 #include <pthread.h>
 #include <stdio.h>
@@ -24,6 +27,7 @@ int main(void)
         both(&pool, &journal);
         both(&journal, &pool);
     }
-    printf("%d %d %d\n", awake, witness_assert(&pool, WITNESS_LOCKED), witness_warn("here"));
+    printf("%d %d %d %d\n", awake, witness_assert(&pool, WITNESS_UNLOCKED), witness_assert(&pool, WITNESS_LOCKED),
+        witness_warn("here"));
     return 0;
 }

@@ -8,6 +8,9 @@ static struct wit_place place;
 /* No call of a verifier that there isn't does anything. */
 static void try_empty(void)
 {
+    struct wit_report report = {.seat = 9};
+    struct wit_order step = {.first = 9};
+    struct wit_held held = {.count = 9};
     uint16_t number = 9;
     char byte = 9;
 
@@ -41,7 +44,15 @@ static void try_empty(void)
     IS(WIT_EMPTY, wit_circle_text(&place, &byte, 1));
     IS(WIT_EMPTY, wit_circle(&place, &number, 1));
     IS(WIT_EMPTY, wit_path(&place, 1, 2, &number, 1));
+    IS(WIT_EMPTY, wit_free_chunks(&place));
+    IS(WIT_EMPTY, wit_lock_name(&place, 1, &byte, 1));
+    IS(WIT_EMPTY, wit_type_name(&place, 1, &byte, 1));
+    IS(WIT_EMPTY, wit_file_name(&place, 1, &byte, 1));
+    IS(WIT_EMPTY, wit_report(&place, &report));
+    IS(WIT_EMPTY, wit_report_path(&place, &step, 1));
+    IS(WIT_EMPTY, wit_held(&place, 1, &held, 1));
     HOLDS(byte == 9 && number == 9 && !place.full && place.at == NULL);
+    HOLDS(report.seat == 9 && step.first == 9 && held.count == 9);
 }
 
 /* Sizes of 0 or too many, and a place that is full. */

@@ -44,6 +44,7 @@ int64_t release(struct wit_place *place, uint16_t seat, uint32_t lock);
 
 void try_orders(void);    /* orders.c */
 void try_seats(void);     /* seats.c */
+void try_told(void);      /* told.c */
 void try_refusals(void);  /* refusals.c */
 void try_growths(void);   /* growths.c */
 

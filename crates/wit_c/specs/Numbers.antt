@@ -8,6 +8,8 @@ use Rattle.wit_model.specs.declared.assertions.AssertAnswer.TheVariants.{IsLocke
 use Rattle.wit_model.specs.declared.assertions.AssertAnswer.TheVariants.{IsNotExclusive}
 use Rattle.wit_model.specs.declared.assertions.AssertAnswer.TheVariants.{IsExclusive, IsNotRecursed}
 use Rattle.wit_model.specs.declared.assertions.AssertAnswer.TheVariants.{IsRecursed}
+use Rattle.wit_model.specs.declared.calls.Heading.{Heading}
+use Rattle.wit_model.specs.declared.calls.Heading.TheVariants.{Order, Sleepable, Giant}
 use Rattle.wit_model.specs.declared.calls.Reply.{Reply}
 use Rattle.wit_model.specs.declared.calls.Reply.TheVariants.{Made, Done, Pass, Adopted, AdoptedAll}
 use Rattle.wit_model.specs.declared.calls.Reply.TheVariants.{Silent, Reversal, Duplicate, Recorded}
@@ -31,9 +33,12 @@ use Rattle.wit_model.specs.declared.faults.Fault.TheVariants.{UnknownFile, RawNo
 use Rattle.wit_model.specs.declared.locks.Class.{Class}
 use Rattle.wit_model.specs.declared.locks.Class.TheVariants.{SleepMutex, SpinMutex, Rw, Sx}
 use Rattle.wit_model.specs.declared.locks.FileNo.{FileNo}
+use Rattle.wit_model.specs.declared.locks.Instance.{Instance}
 use Rattle.wit_model.specs.declared.locks.LockNo.{LockNo}
 use Rattle.wit_model.specs.declared.locks.Mode.{Mode}
 use Rattle.wit_model.specs.declared.locks.Mode.TheVariants.{Shared, Exclusive}
+use Rattle.wit_model.specs.declared.locks.Origin.{Origin}
+use Rattle.wit_model.specs.declared.locks.Origin.TheVariants.{Listed, Defined, At}
 use Rattle.wit_model.specs.declared.locks.Site.{Site}
 use Rattle.wit_model.specs.declared.locks.Watch.{Watch}
 use Rattle.wit_model.specs.declared.locks.Watch.TheVariants.{Off, Quiet, On}
@@ -149,6 +154,36 @@ watch_number Off = neg_ℤ (pos 1)
 watch_number Quiet = pos 0
 watch_number On = pos 1
 
+abbrev pub class_number : Class → ℕ
+class_number SleepMutex = 0
+class_number SpinMutex = 1
+class_number Rw = 2
+class_number Sx = 3
+
+abbrev pub mode_number : Mode → ℕ
+mode_number Shared = 0
+mode_number Exclusive = 1
+
+-- which rule a reversal breaks
+abbrev pub heading_number : Heading → ℕ
+heading_number Order = 0
+heading_number Sleepable = 1
+heading_number Giant = 2
+
+-- where an order comes from; 0 where there is none
+abbrev pub origin_number : Option Origin → ℕ
+origin_number None = 0
+origin_number (Some Listed) = 1
+origin_number (Some Defined) = 2
+origin_number (Some (At site)) = 3
+
+-- by which reply something was reported: 0 where nothing was
+abbrev pub report_number : Result Reply Fault → ℤ
+report_number (Ok (Reversal conflict)) = pos 4
+report_number (Ok (Duplicate doubling)) = pos 5
+report_number (Ok Exhausted) = pos 7
+report_number _ = pos 0
+
 -- ---- what C gives
 
 abbrev pub mode_in : Bool → Mode
@@ -185,3 +220,15 @@ site_in file line = record { file = record { 0 = file }; line = line }
 abbrev pub optional_number : Option ℕ → ℤ
 optional_number None = pos 0
 optional_number (Some n) = pos n
+
+-- how a lock is held, as far as an assertion looks: whether it is, how, and how often it was
+-- acquired again
+abbrev pub holding_in : Bool → Bool → ℕ → Option Instance
+holding_in false exclusive count = None
+holding_in true exclusive count = Some (record {
+  lock = record { 0 = 0 };
+  site = site_in 0 0;
+  count = count;
+  mode = mode_in exclusive;
+  norelease = false;
+})

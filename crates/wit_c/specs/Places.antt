@@ -7,7 +7,7 @@ use Rattle.wit_model.specs.Rules.Step.{Answers, AnswersOrFails}
 use Rattle.wit_model.specs.declared.locks.FileNo.{FileNo}
 use Rattle.wit_model.specs.Rules.Files.{NamesFile}
 use Rattle.wit_c.specs.Numbers.{empty_place, answer_number, file_number}
-use Rattle.wit_c.specs.Texts.{IsToldOrFails}
+use Rattle.wit_c.specs.Texts.{IsTold, IsToldOrFails}
 use Rattle.wit_c.specs.declared.judge.Judge.{Judge}
 
 -- an empty place stays so, and that is the answer; a full one stays full, and the rest says what
@@ -38,8 +38,8 @@ CallsSurely seat call = InPlace (λ old n new.
     Answers old.verifier seat call new.last new.verifier × (n ≡ answer_number new.last))
 
 -- the verifier tells something in a buffer, and stays; of an empty place the buffer stays too
-abbrev pub Tells : {X : Type 0} → (Judge → List X → ℤ → List X → Type 0) → List X → List X
-    → Option Judge → ℤ → Option Judge → Type 0
+abbrev pub Tells : {B : Type 0} → (Judge → B → ℤ → B → Type 0) → B → B → Option Judge → ℤ
+    → Option Judge → Type 0
 Tells says old_buffer new_buffer None n new =
     (n ≡ empty_place) × ((new ≡ None) × (new_buffer ≡ old_buffer))
 Tells says old_buffer new_buffer (Some old) n None = ⊥
@@ -50,3 +50,13 @@ Tells says old_buffer new_buffer (Some old) n (Some new) =
 abbrev pub TellsAll : {X : Type 0} → (Judge → List X) → List X → List X
     → Option Judge → ℤ → Option Judge → Type 0
 TellsAll all = Tells (λ judge old n new. IsToldOrFails (all judge) old n new)
+
+-- and where no memory is wanted for it
+abbrev pub TellsSurely : {X : Type 0} → (Judge → List X) → List X → List X
+    → Option Judge → ℤ → Option Judge → Type 0
+TellsSurely all = Tells (λ judge old n new. IsTold (all judge) old n new)
+
+-- what it tells fills a structure
+abbrev pub Fills : {X : Type 0} → (Judge → ℤ) → (Judge → X) → X → X
+    → Option Judge → ℤ → Option Judge → Type 0
+Fills number what = Tells (λ judge old n new. (n ≡ number judge) × (new ≡ what judge))

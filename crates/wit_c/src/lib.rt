@@ -5,6 +5,7 @@
 #![tactic(auto)]
 
 mod calls;
+mod details;
 mod handle;
 mod judge;
 mod lists;
@@ -13,6 +14,7 @@ mod parts;
 mod place;
 mod questions;
 mod starting;
+mod structures;
 mod telling;
 mod texts;
 mod views;

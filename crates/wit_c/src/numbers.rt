@@ -4,9 +4,13 @@ ghost use Rattle.std.specs.Prelude.{◌≡◌, ◌≤◌, pos};
 ghost use Rattle.wit_c.specs.Numbers.{empty_place, full_place, no_such, number_of, fault_number};
 ghost use Rattle.wit_c.specs.Numbers.{reply_number, answer_number, file_number, assert_number};
 ghost use Rattle.wit_c.specs.Numbers.{asserted_number, count_number, counted_number, watch_number};
-ghost use Rattle.wit_c.specs.Numbers.{mode_in, class_in, watch_in, lock_in, site_in};
+ghost use Rattle.wit_c.specs.Numbers.{class_number, mode_number, heading_number, origin_number};
+ghost use Rattle.wit_c.specs.Numbers.{report_number};
+ghost use Rattle.wit_c.specs.Numbers.{mode_in, class_in, watch_in, lock_in, site_in, holding_in};
 
-use wit_model::{AssertAnswer, Class, Fault, FileNo, LockNo, Mode, Reply, Site, Watch};
+use wit_model::{
+    AssertAnswer, Class, Fault, FileNo, Heading, Instance, LockNo, Mode, Origin, Reply, Site, Watch,
+};
 
 /// There is no verifier in the place.
 pub const EMPTY_PLACE: i64 = -100;
@@ -148,6 +152,63 @@ pub fn watch_number(watch: Watch) -> i64
     }
 }
 
+/// A class.
+pub fn class_number(class: Class) -> u32
+    ensures { result ≡ class_number class }
+{
+    match class {
+        Class::SleepMutex => 0,
+        Class::SpinMutex => 1,
+        Class::Rw => 2,
+        Class::Sx => 3,
+    }
+}
+
+/// 1 where a lock is held exclusively, and else 0.
+pub fn mode_number(mode: Mode) -> u32
+    ensures { result ≡ mode_number mode }
+{
+    match mode {
+        Mode::Shared => 0,
+        Mode::Exclusive => 1,
+    }
+}
+
+/// Which rule a reversal breaks.
+pub fn heading_number(heading: Heading) -> u32
+    ensures { result ≡ heading_number heading }
+{
+    match heading {
+        Heading::Order => 0,
+        Heading::Sleepable => 1,
+        Heading::Giant => 2,
+    }
+}
+
+/// Where an order comes from; 0 where there is none.
+pub fn origin_number(origin: Option<Origin>) -> u32
+    ensures { result ≡ origin_number origin }
+{
+    match origin {
+        None => 0,
+        Some(Origin::Listed) => 1,
+        Some(Origin::Defined) => 2,
+        Some(Origin::At(_)) => 3,
+    }
+}
+
+/// By which reply something was reported; 0 where nothing was.
+pub fn report_number(answer: &Result<Reply, Fault>) -> i64
+    ensures { result ≡ report_number answer.now }
+{
+    match answer {
+        Ok(Reply::Reversal(_)) => 4,
+        Ok(Reply::Duplicate(_)) => 5,
+        Ok(Reply::Exhausted) => 7,
+        _ => 0,
+    }
+}
+
 /// How a lock is held.
 #[inline(always)]
 pub fn mode_in(exclusive: bool) -> Mode
@@ -207,4 +268,20 @@ pub fn site_in(file: u16, line: u32) -> Site
         file: FileNo(file),
         line,
     }
+}
+
+/// How a lock is held, as far as an assertion looks; `None` where it isn't.
+pub fn holding_in(held: bool, exclusive: bool, count: u16) -> Option<Instance>
+    ensures { result ≡ holding_in held exclusive count }
+{
+    if !held {
+        return None;
+    }
+    Some(Instance {
+        lock: LockNo(0),
+        mode: mode_in(exclusive),
+        norelease: false,
+        count,
+        site: site_in(0, 0),
+    })
 }

@@ -1,22 +1,26 @@
 //! What is asked of a verifier, and what isn't logged.
 
-ghost use Rattle.std.specs.Prelude.{◌≡◌, pos};
+ghost use Rattle.std.specs.Prelude.{◌≡◌, pos, Ok};
 ghost use Rattle.std.specs.Option.{option_map};
 ghost use Rattle.wit_core.specs.Numbered.{lock_type};
 ghost use Rattle.wit_model.specs.declared.locks.TypeNo.{TypeNo};
-ghost use Rattle.wit_model.specs.Rules.Assertions.{step_assert};
+ghost use Rattle.wit_model.specs.declared.locks.Watch.TheVariants.{On};
+ghost use Rattle.wit_model.specs.Rules.Assertions.{assertion, step_assert};
 ghost use Rattle.wit_model.specs.Rules.History.{reports_of, watch_of};
 ghost use Rattle.wit_model.specs.Rules.State.{state_of, typed_locks};
 ghost use Rattle.wit_model.specs.Rules.Warnings.{step_warn};
 ghost use Rattle.wit_c.specs.Numbers.{asserted_number, counted_number, watch_number, lock_in};
-ghost use Rattle.wit_c.specs.Numbers.{optional_number};
+ghost use Rattle.wit_c.specs.Numbers.{optional_number, holding_in};
 ghost use Rattle.wit_c.specs.Places.{Asks, Names};
 ghost use Rattle.wit_c.specs.Texts.{file_name_in};
 
-use crate::numbers::{EMPTY_PLACE, asserted_number, counted_number, lock_in, watch_number};
+use crate::numbers::{
+    EMPTY_PLACE, asserted_number, counted_number, holding_in, lock_in, watch_number,
+};
 use crate::place::Place;
 use crate::texts::file_name_in;
 use std::alloc::Global;
+use wit_held::asserted;
 use wit_model::{LockAssert, LockNo, SeatNo, WarnFlags};
 
 /// The number of a source file: `Verifier::file`.
@@ -54,6 +58,17 @@ pub extern "C" fn wit_assert(
         .assert_lock(SeatNo(seat), LockNo(lock), LockAssert(flags));
     place.put(judge);
     asserted_number(answer)
+}
+
+/// What an assertion comes to about a lock that is held so, or isn't, where all is watched: it was
+/// acquired again so many times. No verifier is asked.
+#[unsafe(no_mangle)]
+pub extern "C" fn wit_asserted(held: bool, exclusive: bool, count: u16, flags: u8) -> i64
+    ensures { result ≡ asserted_number
+        (Ok (assertion On (record { 0 = flags }) (holding_in held exclusive count))) }
+{
+    let holding = holding_in(held, exclusive, count);
+    asserted_number(Ok(asserted(holding, LockAssert(flags))))
 }
 
 /// How many locks a seat holds where it should hold none but the named one, where 0 names none, or

@@ -7,6 +7,8 @@ ghost use Rattle.wit_model.specs.declared.locks.SeatNo.{SeatNo};
 ghost use Rattle.wit_model.specs.Rules.Circles.{seat_numbers};
 ghost use Rattle.wit_model.specs.Rules.State.{state_of};
 ghost use Rattle.wit_model.specs.Trace.Views.{circle_text};
+ghost use Rattle.wit_c.specs.Structures.{last_path, path_told, held_told};
+ghost use Rattle.wit_c.specs.Structures.{lock_name, type_name, file_name};
 ghost use Rattle.wit_c.specs.Texts.{IsTold, IsToldOrFails};
 ghost use Rattle.wit_c.specs.Views.{last_text, locks_text, all_locks_text, graph_text};
 ghost use Rattle.wit_c.specs.Views.{TellsWarning, path_types, TellsAssertion, TellsSeats};
@@ -14,9 +16,12 @@ ghost use Rattle.wit_c.specs.Views.{TellsCircleText};
 
 use crate::judge::Judge;
 use crate::numbers::{count_number, fault_number, lock_in};
+use crate::structures::{HeldTold, OrderTold, add_held, steps_told, type_of};
 use std::alloc::{AllocError, Global};
-use wit_model::{Fault, LockAssert, LockNo, SeatNo, TypeNo, WarnFlags};
-use wit_report::{all_locks, assert_text, circle_text, graph, locks_of, report_text, warn_text};
+use wit_model::{Fault, FileNo, LockAssert, LockNo, Reply, SeatNo, TypeNo, WarnFlags};
+use wit_report::{
+    all_locks, assert_text, circle_text, graph, locks_of, newest_first, report_text, warn_text,
+};
 
 // Puts as much into a buffer as it has room for, and tells how much there is.
 fn tell<T: Copy>(all: &[T], to: &mut [T]) -> i64
@@ -39,6 +44,76 @@ impl Judge {
             Ok(text) => tell(text.as_bytes(), to),
             Err(fault) => fault_number(fault),
         }
+    }
+
+    /// The orders that it goes against.
+    pub(crate) fn tell_last_path(&self, alloc: Global, to: &mut [OrderTold]) -> i64
+        ensures { IsToldOrFails (last_path self.now) to.old result to.new }
+    {
+        let Ok(Reply::Reversal(conflict)) = &self.last else {
+            return 0;
+        };
+        let conflict = conflict.get();
+        let asked = type_of(&self.verifier, conflict.asked.lock);
+        let held = type_of(&self.verifier, conflict.held.lock);
+        self.tell_steps(alloc, asked, held, to)
+    }
+
+    // The orders that lead from one type to another.
+    fn tell_steps(&self, alloc: Global, first: TypeNo, last: TypeNo, to: &mut [OrderTold]) -> i64
+        ensures { IsToldOrFails (path_told self.now.verifier first.0 last.0) to.old result to.new }
+    {
+        let types = match self.verifier.path(first, last) {
+            Ok(Some(types)) => types,
+            Ok(None) => return 0,
+            Err(fault) => return fault_number(fault),
+        };
+        match steps_told(alloc, &self.verifier, &types) {
+            Ok(steps) => tell(&steps, to),
+            Err(_) => fault_number(Fault::OutOfMemory),
+        }
+    }
+
+    /// Which locks a seat holds, as numbers.
+    pub(crate) fn tell_held(&self, alloc: Global, seat: SeatNo, to: &mut [HeldTold]) -> i64
+        ensures { IsToldOrFails (held_told seat.0 self.now) to.old result to.new }
+    {
+        match self.all_held(alloc, seat) {
+            Ok(held) => tell(&held, to),
+            Err(_) => fault_number(Fault::OutOfMemory),
+        }
+    }
+
+    fn all_held(&self, alloc: Global, seat: SeatNo) -> Result<Vec<HeldTold>, AllocError>
+        ensures { IfOk result (λ held. held.items ≡ held_told seat.0 self.now) }
+    {
+        let mut all = Vec::new(alloc);
+        let sleep = newest_first(alloc, &self.verifier, seat, false)?;
+        add_held(&mut all, &self.verifier, &sleep)?;
+        let spin = newest_first(alloc, &self.verifier, seat, true)?;
+        add_held(&mut all, &self.verifier, &spin)?;
+        Ok(all)
+    }
+
+    /// The name of a lock.
+    pub(crate) fn tell_lock_name(&self, lock: LockNo, to: &mut [u8]) -> i64
+        ensures { IsTold (lock_name lock.0 self.now) to.old result to.new }
+    {
+        tell(self.verifier.lock_name(lock).unwrap_or("").as_bytes(), to)
+    }
+
+    /// The name of a type.
+    pub(crate) fn tell_type_name(&self, number: TypeNo, to: &mut [u8]) -> i64
+        ensures { IsTold (type_name number.0 self.now) to.old result to.new }
+    {
+        tell(self.verifier.type_name(number).unwrap_or("").as_bytes(), to)
+    }
+
+    /// The name of a file.
+    pub(crate) fn tell_file_name(&self, file: FileNo, to: &mut [u8]) -> i64
+        ensures { IsTold (file_name file.0 self.now) to.old result to.new }
+    {
+        tell(self.verifier.file_name(file).unwrap_or("").as_bytes(), to)
     }
 
     /// What an assertion comes to.

@@ -5,8 +5,7 @@ use Rattle.std.proofs.lemmas.List.{take_all}
 use Rattle.std.proofs.Common.{◌+◌, Bool, false, nat_lt, arith}
 use Rattle.std.proofs.lemmas.Bool.{ltb-true, ltb-false}
 use Rattle.std.specs.Global.{Vec}
-use Rattle.wit_forecast.specs.Forecasts.{lines_in}
-use Rattle.wit_forecast.specs.Owners.{goes_on, going_on, Begins}
+use Rattle.wit_forecast.specs.Owners.{lines_in, goes_on, going_on, Begins}
 
 pub begins_none : (field : List ℕ) (chosen : List (Vec ℕ)) (all : List (List ℕ))
     → length chosen < 1 → Begins (going_on field (lines_in chosen)) all
@@ -21,7 +20,7 @@ begins_more field line others all rest own is begins =
     (begins.0, rw (own) (is ∙ ap (λ l. line.items ∷ l) begins.1))
 
 -- a list is its first element and the others
-split_first : (chosen : List (Vec ℕ)) (line : Vec ℕ) → 1 ≤ length chosen → line ≡ get_or chosen 0 line
+pub split_first : (chosen : List (Vec ℕ)) (line : Vec ℕ) → 1 ≤ length chosen → line ≡ get_or chosen 0 line
     → chosen ≡ line ∷ take (length chosen - 1) (drop 1 chosen)
 split_first [] line some is = absurd (omega (arith, some))
 split_first (first ∷ others) line some is =

@@ -5,7 +5,8 @@ use Rattle.wit_model.specs.Trace.Moving.{with_feeds}
 use Rattle.wit_stream.specs.Stream.{OutputFrom, WritesFront, WritesOutput}
 use Rattle.wit_stream.specs.Text.{text_of}
 use Rattle.wit_stream.specs.declared.summary.Summary.{Summary}
-use Rattle.wit_forecast.specs.Forecasts.{lines_in, Forecasts}
+use Rattle.wit_forecast.specs.Forecasts.{Forecasts}
+use Rattle.wit_forecast.specs.Owners.{lines_in}
 use Rattle.wit_forecast.specs.Forecasting.{allowed}
 use Rattle.wit_forecast.specs.declared.forecasting.Forecasting.{Forecasting}
 use Rattle.wit_forecast.proofs.Joined.{joined}

@@ -5,7 +5,8 @@ use Rattle.wit_model.specs.declared.lines.Cause.{Cause}
 use Rattle.wit_model.specs.Trace.Moving.{with_feeds}
 use Rattle.wit_stream.specs.Machine.{BreaksAt}
 use Rattle.wit_stream.specs.declared.summary.Summary.{Summary}
-use Rattle.wit_forecast.specs.Forecasts.{lines_in, AreAnswers, Forecasts, IsAnswer}
+use Rattle.wit_forecast.specs.Forecasts.{AreAnswers, Forecasts, IsAnswer}
+use Rattle.wit_forecast.specs.Owners.{lines_in}
 use Rattle.wit_forecast.specs.Forecasting.{allowed}
 use Rattle.wit_forecast.specs.declared.answers.Answer.{Answer}
 use Rattle.wit_forecast.specs.declared.forecasting.Forecasting.{Forecasting}

@@ -5,7 +5,8 @@ use Rattle.wit_model.specs.declared.lines.Cause.TheVariants.{Cut}
 use Rattle.wit_model.specs.Trace.Moving.{with_feeds}
 use Rattle.wit_model.specs.Trace.Output.{bad_text}
 use Rattle.wit_stream.specs.declared.summary.Summary.{Summary}
-use Rattle.wit_forecast.specs.Forecasts.{lines_in, Forecasts}
+use Rattle.wit_forecast.specs.Forecasts.{Forecasts}
+use Rattle.wit_forecast.specs.Owners.{lines_in}
 use Rattle.wit_forecast.specs.declared.forecasting.Forecasting.{Forecasting}
 
 -- what may be written of the lines that were kept and of what is still to come

@@ -1,3 +1,4 @@
+pub mod Errands
 pub mod Forecasting
 pub mod Forecasts
 pub mod Owners

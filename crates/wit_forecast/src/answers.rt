@@ -12,6 +12,8 @@ pub enum Answer {
     Schedule(Vec<u8>),
     /// A schedule of errands alone.
     Errands(Vec<u8>),
+    /// One in which further seats do what seats of the run did.
+    Copies(Vec<u8>),
     /// Words, which stand in a line of their own.
     Words(String),
 }
@@ -44,7 +46,9 @@ fn put(text: &mut Vec<u8>, answer: &Answer) -> Result<(), AllocError>
     ensures { OnOk result (text.new.items ≡ text.old.items ++ text_of answer.now) }
 {
     match answer {
-        Answer::Schedule(lines) | Answer::Errands(lines) => text.extend_from_slice(lines),
+        Answer::Schedule(lines) | Answer::Errands(lines) | Answer::Copies(lines) => {
+            text.extend_from_slice(lines)
+        }
         Answer::Words(words) => {
             text.extend_from_slice(b"report ")?;
             text.extend_from_slice(words.as_bytes())?;

@@ -2,13 +2,15 @@
 
 ghost use Rattle.std.specs.Prelude.{ℕ, List, IfOk, IfSome, OnOk};
 ghost use Rattle.wit_model.specs.Trace.Moving.{with_feeds};
-ghost use Rattle.wit_forecast.specs.Forecasts.{lines_in, AreAnswers, IsAnswer, IsOutcome};
+ghost use Rattle.wit_forecast.specs.Forecasts.{AreAnswers, IsAnswer, IsOutcome};
+ghost use Rattle.wit_forecast.specs.Owners.{lines_in};
 
 use crate::answers::Answer;
 use crate::circles::all_holders;
 use crate::outcomes::{Outcome, put_line, put_number, words_of};
 use crate::reading::{Report, Trace};
 use crate::requests::all_requests;
+use crate::rests::rests_of;
 use crate::schedules::Source;
 use crate::searching::Search;
 use std::alloc::{AllocError, Global};
@@ -30,6 +32,11 @@ pub fn answers_of(
     let Some(world) = trace.world() else {
         return Ok(answers);
     };
+    if trace.head > lines.len() {
+        return Ok(answers);
+    }
+    let (_prelude, body) = lines.split_at(trace.head);
+    let rests = rests_of(alloc, body, &trace.deeds)?;
     let verifier = world.verifier();
     let requests = all_requests(alloc, &trace.deeds, verifier.seats())?;
     let holders = all_holders(alloc, &requests, greatest_lock(trace))?;
@@ -45,6 +52,7 @@ pub fn answers_of(
         requests: &requests,
         holders: &holders,
         active: &active,
+        rests: &rests,
         is_watched: trace.is_watched,
     };
     let mut number: u64 = 0;
@@ -127,7 +135,7 @@ fn schedule_in(outcome: Outcome) -> Option<Answer>
     match outcome {
         Outcome::Hangs(text) => Some(Answer::Schedule(text)),
         Outcome::Meets(text) => Some(Answer::Errands(text)),
-        Outcome::Alone(text, _copies) => Some(Answer::Errands(text)),
+        Outcome::Alone(text, _copies) => Some(Answer::Copies(text)),
         Outcome::Barred(_place) => None,
         Outcome::Gate(_lock) => None,
         Outcome::Readers | Outcome::Types | Outcome::Untold | Outcome::Undecided => None,

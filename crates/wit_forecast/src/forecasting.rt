@@ -3,7 +3,8 @@
 ghost use Rattle.std.specs.Prelude.{◌++◌, ℕ, List, IfOk, OnErr};
 ghost use Rattle.wit_model.specs.Trace.Moving.{with_feeds};
 ghost use Rattle.wit_stream.specs.Stream.{WritesFront, WritesOutput};
-ghost use Rattle.wit_forecast.specs.Forecasts.{lines_in, Forecasts};
+ghost use Rattle.wit_forecast.specs.Forecasts.{Forecasts};
+ghost use Rattle.wit_forecast.specs.Owners.{lines_in};
 ghost use Rattle.wit_forecast.specs.Forecasting.{allowed, some_forecast};
 
 use crate::answers::{Answer, text_of_all};
@@ -87,7 +88,7 @@ impl Forecasting {
 
 fn is_schedule(answer: &Answer) -> bool {
     match answer {
-        Answer::Schedule(_) | Answer::Errands(_) => true,
+        Answer::Schedule(_) | Answer::Errands(_) | Answer::Copies(_) => true,
         Answer::Words(_) => false,
     }
 }

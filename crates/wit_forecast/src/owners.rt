@@ -2,13 +2,12 @@
 //! in the other.
 
 ghost use Rattle.std.specs.Prelude.{◌≡◌, ℕ, ◌≤◌, ◌∷◌, true, IfSome, IfOk};
-ghost use Rattle.wit_forecast.specs.Forecasts.{lines_in, most_seats};
-ghost use Rattle.wit_forecast.specs.Owners.{after_space, goes_on, going_on, own, Begins};
+ghost use Rattle.wit_forecast.specs.Owners.{lines_in, after_space, goes_on, going_on, own, field, Begins, most_seats};
 
 use std::alloc::{AllocError, Global};
 
-// The bytes after the first space.
-fn after_space(line: &[u8]) -> &[u8]
+/// The bytes after the first space.
+pub fn after_space(line: &[u8]) -> &[u8]
     ensures { result.now ≡ after_space line.now }
 {
     match line {
@@ -23,8 +22,8 @@ fn after_space(line: &[u8]) -> &[u8]
     }
 }
 
-// Whether this stands after the first space of a line.
-fn goes_on(line: &[u8], field: &[u8]) -> bool
+/// Whether this stands after the first space of a line.
+pub fn goes_on(line: &[u8], field: &[u8]) -> bool
     ensures { result ≡ goes_on field.now line.now }
 {
     after_space(line).starts_with(field)
@@ -93,7 +92,18 @@ fn begins_of(
     ensures { IfOk result (λ b. b ≡ true
         → Begins (own seat (lines_in chosen.now)) (own seat (lines_in all.now))) }
 {
-    let mut field = seat.to_string(alloc)?;
-    field.push(' ')?;
-    Ok(begins(field.as_bytes(), chosen, all))
+    let field = field_of(alloc, seat)?;
+    Ok(begins(&field, chosen, all))
+}
+
+/// A seat's number, as a field that another one follows.
+///
+/// # Errors
+/// Want of memory alone.
+pub fn field_of(alloc: Global, seat: u16) -> Result<Vec<u8>, AllocError>
+    ensures { IfOk result (λ bytes. bytes.items ≡ field seat) }
+{
+    let mut text = seat.to_string(alloc)?;
+    text.push(' ')?;
+    Ok(text.into_bytes())
 }

@@ -60,8 +60,17 @@ pub fn whole_schedule(
     Ok(schedule.finished())
 }
 
-/// The lines that make the locks which are named, then the errands by turns, each by the seat that does
-/// it there. `None` where a lock would get another number.
+/// Errands by turns, and what has to stand before them.
+#[derive(Debug, Drop)]
+pub struct Errands {
+    /// How many locks are made before them.
+    pub makings: u32,
+    /// Their lines, each by the seat that does it there.
+    pub lines: Vec<Vec<u8>>,
+}
+
+/// The errands by turns, after what makes the locks that are named. `None` where a lock would get
+/// another number.
 ///
 /// # Errors
 /// Want of memory alone.
@@ -70,19 +79,21 @@ pub fn errands_schedule(
     source: Source<'_>,
     parts: &[Part],
     turns: &[Turn],
-) -> Result<Option<Vec<Vec<u8>>>, AllocError> {
+) -> Result<Option<Errands>, AllocError> {
     let mut schedule = Schedule::new(alloc);
     let needed = greatest_in(source.deeds, parts);
-    for (place, deed) in source.deeds.iter().enumerate() {
+    for deed in source.deeds {
         if schedule.made >= needed {
             break;
         }
-        if deed.is_making() {
-            schedule.put(alloc, source, place, deed.seat)?;
-        }
+        schedule.count(deed);
     }
+    let makings = schedule.made;
     schedule.put_turns(alloc, source, parts, turns)?;
-    Ok(schedule.finished())
+    Ok(match schedule.finished() {
+        Some(lines) => Some(Errands { makings, lines }),
+        None => None,
+    })
 }
 
 /// The prelude, with so many seats.
@@ -153,6 +164,14 @@ impl Schedule {
         }
     }
 
+    // Counts a lock, where the deed makes one.
+    fn count(&mut self, deed: &Deed) {
+        if deed.is_making() {
+            self.made = self.made.saturating_add(1);
+            self.is_numbered = self.is_numbered && self.made == deed.greatest;
+        }
+    }
+
     // Puts the line of a deed, done by this seat.
     fn put(
         &mut self,
@@ -167,10 +186,7 @@ impl Schedule {
         ) else {
             return Ok(());
         };
-        if deed.is_making() {
-            self.made = self.made.saturating_add(1);
-            self.is_numbered = self.is_numbered && self.made == deed.greatest;
-        }
+        self.count(deed);
         let line = match seat == deed.seat {
             true => Vec::from_slice(alloc, line)?,
             false => changed(alloc, line, 1, u32::from(seat.0))?,

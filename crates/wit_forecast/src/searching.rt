@@ -1,11 +1,14 @@
 //! The search for a schedule that ends in a report's circle.
 
-ghost use Rattle.std.specs.Prelude.{IfOk, IfSome};
+ghost use Rattle.std.specs.Prelude.{drop, IfOk, IfSome};
 ghost use Rattle.wit_model.specs.Trace.Moving.{with_feeds};
-ghost use Rattle.wit_forecast.specs.Forecasts.{lines_in, IsOutcome, IsSchedule};
+ghost use Rattle.wit_forecast.specs.Errands.{AreRests};
+ghost use Rattle.wit_forecast.specs.Forecasts.{IsMeeting, IsOutcome, IsSchedule};
+ghost use Rattle.wit_forecast.specs.Owners.{lines_in};
 
-use crate::certifying::{circle_text, schedule_text};
+use crate::certifying::{Plan, meeting_text, schedule_text};
 use crate::circles::{Circle, Hindrance, circles_through};
+use crate::errands::Claim;
 use crate::meeting::{Errand, Meeting, Turn, errand_of, meet};
 use crate::outcomes::{Copy, Outcome, better};
 use crate::reaching::leads;
@@ -29,6 +32,8 @@ pub struct Search<'a> {
     pub holders: &'a [Vec<usize>],
     /// Which seats did something, by their numbers.
     pub active: &'a [bool],
+    /// Before which of its lines their seats had nothing.
+    pub rests: &'a [Option<u16>],
     /// Whether all of it was watched and recorded.
     pub is_watched: bool,
 }
@@ -46,6 +51,7 @@ impl Search<'_> {
     /// # Errors
     /// Want of memory alone.
     pub fn outcome_of(&self, alloc: Global, report: &Report) -> Result<Outcome, AllocError>
+        requires { AreRests self.now.rests.now (drop self.now.source.head self.now.source.lines.now) }
         ensures { IfOk result
             (IsOutcome (with_feeds (lines_in self.now.source.lines.now))) }
     {
@@ -110,7 +116,8 @@ impl Search<'_> {
         circles: &[Circle],
         first: Outcome,
     ) -> Result<Outcome, AllocError>
-        requires { IsOutcome (with_feeds (lines_in self.now.source.lines.now)) first }
+        requires rested { AreRests self.now.rests.now (drop self.now.source.head self.now.source.lines.now) }
+        requires first { IsOutcome (with_feeds (lines_in self.now.source.lines.now)) first }
         ensures { IfOk result
             (IsOutcome (with_feeds (lines_in self.now.source.lines.now))) }
     {
@@ -141,6 +148,7 @@ impl Search<'_> {
 
     // A schedule that ends with these requests, if one is found.
     fn schedule_of(&self, alloc: Global, places: &[usize]) -> Result<Outcome, AllocError>
+        requires { AreRests self.now.rests.now (drop self.now.source.head self.now.source.lines.now) }
         ensures { IfOk result
             (IsOutcome (with_feeds (lines_in self.now.source.lines.now))) }
     {
@@ -196,6 +204,7 @@ impl Search<'_> {
         members: &[&Request],
         copies: Vec<Copy>,
     ) -> Result<Outcome, AllocError>
+        requires { AreRests self.now.rests.now (drop self.now.source.head self.now.source.lines.now) }
         ensures { IfOk result
             (IsOutcome (with_feeds (lines_in self.now.source.lines.now))) }
     {
@@ -209,16 +218,32 @@ impl Search<'_> {
             Meeting::Undecided => return Ok(Outcome::Undecided),
         };
         let parts = parts_of(alloc, members, errands, &copies)?;
-        let Some(chosen) = errands_schedule(alloc, self.source, &parts, &turns)? else {
+        let Some(errands) = errands_schedule(alloc, self.source, &parts, &turns)? else {
             return Ok(Outcome::Undecided);
         };
         let seats = seats_with(self.source.seats, &copies);
-        let head = head_with(alloc, self.source, seats)?;
-        match circle_text(alloc, &head, &chosen)? {
-            Some(text) if copies.is_empty() => Ok(Outcome::Meets(text)),
+        let opening = head_with(alloc, self.source, seats)?;
+        let claims = claims_of(alloc, members, &copies)?;
+        let plan = Plan {
+            opening: &opening,
+            makings: errands.makings,
+            chosen: &errands.lines,
+            claims: &claims,
+            own_alone: copies.is_empty(),
+        };
+        match self.meeting(alloc, &plan)? {
+            Some(text) if plan.own_alone => Ok(Outcome::Meets(text)),
             Some(text) => Ok(Outcome::Alone(text, copies)),
             None => Ok(Outcome::Undecided),
         }
+    }
+
+    fn meeting(&self, alloc: Global, plan: &Plan<'_>) -> Result<Option<Vec<u8>>, AllocError>
+        requires { AreRests self.now.rests.now (drop self.now.source.head self.now.source.lines.now) }
+        ensures { IfOk result (λ found. IfSome found (λ text.
+            IsMeeting plan.now.own_alone (with_feeds (lines_in self.now.source.lines.now)) text.items)) }
+    {
+        meeting_text(alloc, self.source.lines, self.source.head, self.rests, plan)
     }
 
     fn errands_of(
@@ -301,6 +326,23 @@ fn parts_of(
         }
     }
     Ok(parts)
+}
+
+// Which errand each seat does.
+fn claims_of(
+    alloc: Global,
+    members: &[&Request],
+    copies: &[Copy],
+) -> Result<Vec<Claim>, AllocError> {
+    let mut claims = Vec::new(alloc);
+    for request in members {
+        claims.push(Claim {
+            seat: seat_of(request, copies).0,
+            from: request.seat.0,
+            first: request.first,
+        })?;
+    }
+    Ok(claims)
 }
 
 fn seat_of(request: &Request, copies: &[Copy]) -> SeatNo {

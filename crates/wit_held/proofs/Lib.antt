@@ -1,4 +1,3 @@
-pub mod Asserting
 pub mod FoundLock
 pub mod HeldLock
 pub mod Kept

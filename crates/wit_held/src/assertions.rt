@@ -1,6 +1,7 @@
 //! What is asserted of a lock, and what it comes to.
 
 ghost use Rattle.std.specs.Prelude.{◌≡◌, ◌≤◌, None, Some, find};
+ghost use Rattle.wit_model.specs.declared.locks.Watch.TheVariants.{On};
 ghost use Rattle.wit_model.specs.Rules.Verdict.{is_of};
 ghost use Rattle.wit_model.specs.Rules.Chunks.{IsList, chain_of};
 ghost use Rattle.wit_model.specs.Rules.Assertions.{is_with_count, is_assertion, asserted};
@@ -29,10 +30,18 @@ pub fn assert_is<L: Lists>(
     if !watch.is_on() {
         return AssertAnswer::Skipped;
     }
+    asserted(oldest_held(lists, list, lock), flags)
+}
+
+/// What an assertion about a lock comes to where everything is watched, by how the lock is held, or
+/// that it isn't: `Invalid`, `Holds`, or the first thing that isn't so.
+pub fn asserted(held: Option<Instance>, flags: LockAssert) -> AssertAnswer
+    ensures { result ≡ assertion On flags held }
+{
     if !is_assertion(flags) {
         return AssertAnswer::Invalid;
     }
-    match oldest_held(lists, list, lock) {
+    match held {
         Some(held) => asserted_held(held, flags),
         None => asserted_free(flags),
     }

@@ -12,7 +12,7 @@ mod spots;
 mod vec_lists;
 mod warnings;
 
-pub use assertions::assert_is;
+pub use assertions::{assert_is, asserted};
 pub use chains::{held, oldest_held, record, record_new, set_mode};
 pub use marks::{norelease, releaseok};
 pub use releases::{forget, release};

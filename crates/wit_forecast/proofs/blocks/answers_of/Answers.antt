@@ -1,5 +1,5 @@
 use Rattle.wit_model.specs.Trace.Moving.{with_feeds}
-use Rattle.wit_forecast.specs.Forecasts.{lines_in}
+use Rattle.wit_forecast.specs.Owners.{lines_in}
 use Rattle.wit_forecast.proofs.blocks.answers_of.Goals as goal
 
 pub loop-report-preserved : goal.loop-report-preserved

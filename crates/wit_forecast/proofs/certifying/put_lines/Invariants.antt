@@ -1,6 +1,6 @@
 use Rattle.std.proofs.Common.{◌≡◌, ◌++◌, length}
 use Rattle.wit_model.specs.Trace.Moving.{with_feeds}
-use Rattle.wit_forecast.specs.Forecasts.{lines_in}
+use Rattle.wit_forecast.specs.Owners.{lines_in}
 use Rattle.wit_forecast.proofs.certifying.put_lines.Given as goal
 
 -- the text, and the lines that are left, are what is to be written

@@ -1,7 +1,6 @@
 use Rattle.std.proofs.Common.{ap, sym, ◌∙◌}
 use Rattle.std.specs.Cmp.Lexicographic.{same_text}
-use Rattle.wit_forecast.specs.Forecasts.{lines_in}
-use Rattle.wit_forecast.specs.Owners.{goes_on, going_on}
+use Rattle.wit_forecast.specs.Owners.{lines_in, goes_on, going_on}
 use Rattle.wit_forecast.proofs.Owned.{begins_next}
 use Rattle.wit_forecast.proofs.owners.+begins.Goals as goal
 

@@ -1,5 +1,4 @@
-use Rattle.wit_forecast.specs.Forecasts.{lines_in}
-use Rattle.wit_forecast.specs.Owners.{own, Begins}
+use Rattle.wit_forecast.specs.Owners.{lines_in, own, Begins}
 use Rattle.wit_forecast.proofs.Owned.{up_to}
 use Rattle.wit_forecast.proofs.owners.all_begin.Goals as goal
 

@@ -1,6 +1,5 @@
 use Rattle.std.proofs.Common.{ℕ, ◌<◌}
-use Rattle.wit_forecast.specs.Forecasts.{lines_in}
-use Rattle.wit_forecast.specs.Owners.{own, Begins}
+use Rattle.wit_forecast.specs.Owners.{lines_in, own, Begins}
 use Rattle.wit_forecast.proofs.owners.all_begin.Given as goal
 
 -- so it is of each seat that was looked at

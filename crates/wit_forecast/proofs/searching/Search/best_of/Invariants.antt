@@ -1,5 +1,6 @@
 use Rattle.wit_model.specs.Trace.Moving.{with_feeds}
-use Rattle.wit_forecast.specs.Forecasts.{lines_in, IsOutcome}
+use Rattle.wit_forecast.specs.Forecasts.{IsOutcome}
+use Rattle.wit_forecast.specs.Owners.{lines_in}
 use Rattle.wit_forecast.proofs.searching.Search.best_of.Given as goal
 
 -- what is best so far came of the search
