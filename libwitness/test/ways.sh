@@ -144,7 +144,7 @@ case $chosen in
         cp -R "$top/recorder" recorder && rm -rf recorder/out && WITNESS="$program" recorder/record -- true
         touch "$lib/libwitness.so.1" && cp -p "$lib/libwitness.so.1" recorder/out/recorder.so
         # Some of the programs become another user.
-        chmod 711 . && mkdir live lanes && chmod 1777 live && ln -s "$top/tools" "$top/examples" "$top/crates" .
+        chmod 711 . && mkdir live lanes && chmod 1777 live && ln -s "$top/tools" "$top/examples" "$top/crates" "$top/VERSION" .
         export WITNESS="$program" WITNESS_LOG="$work/live/%p" all_built="$work/writes_all"
         # It builds the recorder that writes each request, for all.
         recorder/test/run alone >lanes/alone 2>&1
