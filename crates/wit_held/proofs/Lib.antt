@@ -1,9 +1,6 @@
 pub mod FoundLock
 pub mod HeldLock
-pub mod Kept
 pub mod Marking
 pub mod Newest
 pub mod Passing
-pub mod Pushed
 pub mod Recording
-pub mod VecRows
