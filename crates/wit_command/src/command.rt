@@ -1,5 +1,6 @@
 //! What the program can be asked to do.
 
+use wit_merge::Shown;
 use wit_trace::View;
 
 /// What an import of ftrace tells by locks.
@@ -57,6 +58,8 @@ pub enum Command {
     Write(Form),
     /// What is against others among the orders on standard input.
     Judge,
+    /// The orders of the files on standard input, shown so.
+    Orders(Shown),
     /// The lines on standard input, which such a source wrote, as a trace.
     Import(Source),
     /// The demonstration.
