@@ -1,4 +1,4 @@
-//! A gate whose waiters try again and again.
+//! A gate, whatever its waiters do.
 
 ghost use Rattle.std.specs.Prelude.{◌≡◌};
 ghost use Rattle.atomic_table.specs.Seated.{TableId};
@@ -6,33 +6,38 @@ ghost use Rattle.atomic_table.specs.Seated.{TableId};
 use crate::gate::Gate;
 use crate::met::Met;
 use crate::ticket::Ticket;
-use crate::word::{Turn, Word};
+use crate::waiting::{Sleeping, Spinning, Waiting};
+use crate::word::{InTurn, Word};
 use crossbeam_utils::Backoff;
 use std::alloc::Global;
 use std::marker::Model;
-use std::sync::{Mutex, Wait};
+use std::sync::Wait;
 use wit_model::{Fault, Mode};
 use wit_seats::{Room, Seat};
 
-/// Lets in one thread alone, or up to 4,294,967,294 that share it; who must wait tries again, ever
-/// less often.
+/// Lets in one thread alone, or up to 4,294,967,294 that share it. `W` is how who must wait does so.
 ///
 /// Readers come in as long as no writer is in, also before a writer that waits. Contracts see which
 /// word it has.
 #[derive(Drop)]
-pub struct SpinGate {
+pub struct WaitGate<W> {
     word: Word,
-    // Each step on the word is taken while this is held.
-    turn: Mutex<Turn>,
+    waiting: W,
 }
 
-impl Model for SpinGate {
+/// A gate whose waiters sleep.
+pub type CondGate = WaitGate<Sleeping>;
+
+/// A gate whose waiters try again, ever less often.
+pub type SpinGate = WaitGate<Spinning>;
+
+impl<W> Model for WaitGate<W> {
     ghost Value = { TableId };
 
     ghost view = { λ g. g.word };
 }
 
-impl SpinGate {
+impl<W: Waiting> WaitGate<W> {
     ghost use Rattle.std.specs.Prelude.{IfErr, MatchResult};
     ghost use Rattle.wit_model.specs.declared.faults.Fault.TheVariants.{OutOfMemory};
     ghost use Rattle.wit_model.specs.declared.locks.Mode.TheVariants.{Shared};
@@ -42,42 +47,42 @@ impl SpinGate {
     ///
     /// # Errors
     /// [`Fault::OutOfMemory`] alone.
-    pub fn new(alloc: Global) -> Result<SpinGate, Fault>
+    pub fn new(alloc: Global) -> Result<WaitGate<W>, Fault>
         ensures { IfErr result (λ fault. fault ≡ OutOfMemory) }
     {
         let (word, turn) = Word::new(alloc)?;
-        Ok(SpinGate {
+        Ok(WaitGate {
             word,
-            turn: Mutex::new(turn),
+            waiting: W::new(turn),
         })
     }
 
     // One try.
-    fn try_enter<R: Wait>(&self, rt: &R, mode: Mode) -> Result<Ticket, Met>
+    fn try_enter<R: Wait>(&self, rt: &R, turn: &InTurn<'_>, mode: Mode) -> Result<Ticket, Met>
         ensures { MatchResult result (λ t. t ≡ pass self.now mode) (IsBarred self.now mode) }
     {
-        let turn = self.turn.lock(rt);
         match mode {
-            Mode::Shared => self.word.try_share(rt, &turn),
-            Mode::Exclusive => self.word.try_exclusive(&turn),
+            Mode::Shared => self.word.try_share(rt, turn),
+            Mode::Exclusive => self.word.try_exclusive(turn),
         }
     }
 
-    // Tries until the gate lets one in so, and refuses only where as many share it as can.
+    // Waits until the gate lets one in so, and refuses only where as many share it as can.
     pub(crate) fn enter<R: Wait>(&self, rt: &R, mode: Mode) -> Result<Ticket, Met>
         ensures { MatchResult result (λ t. t ≡ pass self.now mode) (IsFull self.now mode) }
     {
-        let backoff = Backoff::new();
+        let patience = Backoff::new();
+        let mut turn = self.waiting.turn(rt);
         for _ in rt.forever() {
-            match self.try_enter(rt, mode) {
+            match self.try_enter(rt, &turn, mode) {
                 Ok(ticket) => return Ok(ticket),
                 Err(met) => {
                     if matches!(mode, Mode::Shared) && met.is_full() {
                         return Err(met);
                     }
-                    backoff.snooze();
                 }
             }
+            turn = self.waiting.wait(rt, turn, &self.word, mode, &patience);
         }
         unreachable!()
     }
@@ -93,7 +98,7 @@ impl SpinGate {
     }
 }
 
-impl Gate for SpinGate {
+impl<W: Waiting> Gate for WaitGate<W> {
     ghost use Rattle.wit_gates.specs.Tickets.{IsBarred, IsCrowded, IsFull, pass};
 
     type Ticket = Ticket;
@@ -114,22 +119,24 @@ impl Gate for SpinGate {
     }
 
     fn try_acquire<R: Wait>(&self, rt: &R, mode: Mode) -> Result<Ticket, Met> {
-        self.try_enter(rt, mode)
+        self.try_enter(rt, &self.waiting.turn(rt), mode)
     }
 
     fn release<R: Wait>(&self, rt: &R, mode: Mode, ticket: Ticket) {
-        let turn = self.turn.lock(rt);
+        let turn = self.waiting.turn(rt);
         let _left = self.word.free(&turn, mode, ticket);
+        self.waiting.wake();
     }
 
     fn try_upgrade<R: Wait>(&self, rt: &R, ticket: Ticket) -> Result<Ticket, (Ticket, Met)> {
-        let turn = self.turn.lock(rt);
-        self.word.try_upgrade(&turn, ticket)
+        self.word.try_upgrade(&self.waiting.turn(rt), ticket)
     }
 
     fn downgrade<R: Wait>(&self, rt: &R, ticket: Ticket) -> Ticket {
-        let turn = self.turn.lock(rt);
-        self.word.downgrade(&turn, ticket)
+        let turn = self.waiting.turn(rt);
+        let share = self.word.downgrade(&turn, ticket);
+        self.waiting.wake();
+        share
     }
 
     fn abandon(ticket: Ticket) {
