@@ -1,6 +1,6 @@
 //! What the program can be asked to do.
 
-use wit_trace::View;
+use wit_lines::View;
 
 /// What an import of ftrace tells by locks.
 #[derive(Clone, Copy, Debug, PartialEq, Eq)]

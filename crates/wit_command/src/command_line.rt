@@ -15,7 +15,7 @@ use clap::{Arg, ArgAction, Error};
 use std::alloc::{AllocError, Global};
 use std::convert::AsStr;
 use std::str;
-use wit_trace::View;
+use wit_lines::View;
 
 /// What these words ask for, which stand behind the program's name: `None` where they aren't
 /// exactly one word that says it, or `orders` and what is to be done with them, or `import` and a source,
