@@ -12,7 +12,7 @@ ghost use Rattle.wit_grammar.specs.Lines.{Begins};
 use crate::line_reader::LineReader;
 use std::alloc::{AllocError, Global};
 use wit_grammar::{
-    Begun, CheckFields, begin_any, behind_check, behind_free, behind_lock, behind_take,
+    Begun, CheckFields, begin_line, behind_check, behind_free, behind_lock, behind_take,
     behind_unlock, check_fields, free_fields, lock_line, note_fields, take_fields, unlock_fields,
 };
 use wit_model::{Call, Keyword, LockLine, RawStep, Request, Site, Verb};
@@ -43,7 +43,7 @@ pub fn read_line<R: LineReader>(
     if let Some(rest) = behind_check(bytes) {
         return check_line(reader, alloc, view, number, bytes, rest, text);
     }
-    other_line(reader, alloc, view, number, bytes, begin_any(bytes), text)
+    other_line(reader, alloc, view, number, bytes, begin_line(bytes), text)
 }
 
 /// Reads a line of the second version, whose frequent lines are steps of locks too.
