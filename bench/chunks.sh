@@ -1,8 +1,8 @@
 #!/bin/sh
 # Measures the verifier's lists in chunks (`wit_pool`): nanoseconds for a push with its remove over
-# four lists, beside plain vectors (the least of three runs; RUNS names another number), and the
-# memory that the largest lists take before anything is pushed. The program stands below. It is
-# proved and built in a copy of the crates that it stands on, which is removed in the end.
+# four lists, beside plain vectors (the least of three runs; RUNS names another number). The program
+# stands below. It is proved and built in a copy of the crates that it stands on, which is removed
+# in the end.
 set -e
 top=$(dirname "$(dirname "$(readlink -f "$0")")")
 room=$(mktemp -d "${TMPDIR:-/tmp}/chunks.XXXXXX")
@@ -20,12 +20,12 @@ echo 'pool_bench: wit_pool wit_model' >>"$room/crates.txt"
 mkdir -p "$room/crates/pool_bench/src"
 
 cat >"$room/crates/pool_bench/src/main.rt" <<'PROGRAM'
-//! How long a push with its remove takes, and how much memory the largest lists take.
+//! How long a push with its remove takes.
 #![tactic(auto)]
 
 use std::alloc::{AllocError, Global};
 use std::time::Instant;
-use std::{fs, io};
+use std::io;
 use wit_model::chunks::Lists;
 use wit_model::{FileNo, Instance, LockNo, Mode, Site};
 use wit_pool::Pool;
@@ -125,23 +125,7 @@ fn nanoseconds_a_turn(rt: &HostRuntime, start: Instant) -> io::Result<u128> {
     Ok(start.elapsed(rt)?.as_nanos() * 10 / TURNS as u128)
 }
 
-fn print_memory(rt: &HostRuntime, when: &str) -> io::Result<()> {
-    let status = fs::read_to_string(rt, "/proc/self/status")?;
-    for line in status.as_str().lines() {
-        if line.starts_with("VmPeak") || line.starts_with("VmHWM") {
-            println!(rt; "{when}: {line}")?;
-        }
-    }
-    Ok(())
-}
-
 fn main(rt: HostRuntime) -> io::Result<()> {
-    print_memory(&rt, "before")?;
-    let largest = Pool::new(rt.alloc(), 65536, 512);
-    print_memory(&rt, "512 lists, 65,536 chunks")?;
-    if largest.is_err() {
-        println!(rt; "there was no memory for them")?;
-    }
     for depth in [0, 3, 5, 23] {
         let mut lists = lists_of(rt.alloc(), depth)?;
         let start = Instant::now(&rt)?;
@@ -167,9 +151,6 @@ fi
 for _ in $(seq "${RUNS:-3}"); do
     "$bench/out/pool_bench"
 done >"$room/times"
-grep Vm "$room/times" | head -n 4
-echo
-printf '%-20s %10s %10s\n' 'locks in each list' 'Pool ns' 'vectors'
 awk '
     function least_of(column, depth, value) {
         if (!((column, depth) in least) || value < least[column, depth])
@@ -182,6 +163,8 @@ awk '
             depths[++count] = $2
     }
     END {
+        print "| Locks in each list | The pool, ns | Plain vectors, ns |"
+        print "|---|---|---|"
         for (k = 1; k <= count; k++)
-            printf "%-20s %10.1f %10.1f\n", depths[k], least["pool", depths[k]] / 10, least["vectors", depths[k]] / 10
+            printf "| %d | %.1f | %.1f |\n", depths[k], least["pool", depths[k]] / 10, least["vectors", depths[k]] / 10
     }' "$room/times"
