@@ -28,6 +28,6 @@ a_pair() {
 for shape in "1 1" "2 1" "5 1" "23 1" "1 4" "2 4" "5 4" "23 4"; do
     plain=$(a_pair $shape)
     held=$(RECORDER_FRAMES=8 RECORDER_HELD=1 a_pair $shape "$recorder/out/recorder.so")
-    echo "${shape% *} deep, ${shape#* } threads: plain $plain, with --held-callers $held, recorded $(a_pair $shape "$recorder/out/recorder.so")"
+    echo "${shape% *} deep, ${shape#* } threads: plain $plain, with the stacks of all that is held $held, recorded $(a_pair $shape "$recorder/out/recorder.so")"
     [ "${shape#* }" -gt 1 ] || python3 "$here/instructions.py" "$folder/$few" "$folder/$many" "$recorder" $(((many - few) * ${shape% *}))
 done
