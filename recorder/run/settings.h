@@ -8,9 +8,9 @@
 #include <time.h>
 
 struct settings {
-    const char *keep;          /* -o FILE */
-    const char *ignore;        /* --ignore FILE */
-    const char *right;         /* --ignore FILE, of libraries; `-` for none, NULL for the lists that come with `record` */
+    const char *keep;   /* -o FILE */
+    const char *ignore; /* --ignore FILE */
+    const char *right;  /* --ignore FILE, of libraries; `-` for none, NULL for the lists that come with `record` */
     const char *right_usually; /* where these are; NULL where they aren't there */
     const char *log;           /* --log-file FILE */
     const char *graph;         /* --graph FILE, which goes */
@@ -33,12 +33,12 @@ struct settings {
     int error;                 /* --error-exitcode, 0 where there is none */
     int new_error;             /* orders --new-exitcode, 0 where there is none */
     int frames;                /* RECORD_FRAMES, --brief, --verbose: how many are shown of a stack; 1 shows none */
-    const char *on_deadlock;  /* --on-deadlock: tell, kill, exit=N; NULL is tell */
-    const char *alarms;       /* --alarms: which reports count for the status */
-    int confirm;              /* --confirm: so many steered runs for a report; 0 where it isn't asked for */
-    int confirm_seconds;      /* --confirm=time=SECONDS: for all of them */
-    const char *confirm_from; /* --confirm=from=FILE: the reports of that file of --json */
-    const char *before;       /* --before, which goes: a command before each steered run */
+    const char *on_deadlock;   /* --on-deadlock: tell, kill, exit=N; NULL is tell */
+    const char *alarms;        /* --alarms: which reports count for the status */
+    int confirm;               /* --confirm: so many steered runs for a report; 0 where it isn't asked for */
+    int confirm_seconds;       /* --confirm=time=SECONDS: for all of them */
+    const char *confirm_from;  /* --confirm=from=FILE: the reports of that file of --json */
+    const char *before;        /* --before, which goes: a command before each steered run */
     int noise;                 /* --confirm=noise: the longest pause of a request, in milliseconds; 0 for none */
     const struct again *again; /* how the program is begun again (steered.h) */
     const char *colour;        /* --color; NULL is auto */
