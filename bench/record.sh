@@ -1,7 +1,7 @@
 #!/bin/sh
 # Measures what the recorder costs: the nanoseconds of processor time that a pair of lock and unlock takes in a loop
 # that does nothing else, and its ratio to the plain loop. The loop runs plain, recorded, and recorded with
-# --held-callers; with libwitness, awake and asleep, where its verifier stands built; under helgrind and drd where
+# the stacks of all that is held; with libwitness, awake and asleep, where its verifier stands built; under helgrind and drd where
 # valgrind is installed; and built by the compiler for ThreadSanitizer where that can be linked. Then it measures what a
 # start of a program takes, what taking and freeing a block costs while a mutex stands in the heap, the processor time of
 # node under work, and how long a recorder's file takes to become a trace. Of RUNS runs (5) the least counts; the ways take
@@ -151,6 +151,6 @@ for rounds in 138000 1380000; do
     env RECORDER_DIRECTORY="$folder/records" LD_PRELOAD="$folder/all.so" "$folder/pairs" 4 1 "$rounds" >/dev/null
     file=$(echo "$folder"/records/*.0)
     begin=$(date +%s)
-    "$recorder/record" --trace "$file" >"$folder/trace"
+    "$here/../tools/trace-of" "$file" >"$folder/trace"
     echo "| $(wc -l <"$folder/trace") | $(($(date +%s) - begin)) |"
 done
