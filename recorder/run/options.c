@@ -3,7 +3,6 @@
 #include <stdio.h>
 #include <stdlib.h>
 #include <string.h>
-#include <sys/stat.h>
 #include <unistd.h>
 
 #include "alarms.h"
@@ -15,40 +14,12 @@
 #include "graph.h"
 #include "libwitness_mode.h"
 #include "allocation.h"
+#include "option_words.h"
 #include "output_files.h"
 #include "right_orders.h"
 #include "usage.h"
 
 enum { FRAMES_MOST = 16, FRAMES_USUAL = 8, DEPTH_MOST = 4, DEPTH_USUAL = 2 };
-
-/* The number that the word is, without a sign or zeroes before it; -1 where it isn't one from 1 to `most`. */
-static int number_up_to(const char *word, int most)
-{
-    int number = 0;
-    for (const char *at = word; *at; at++) {
-        if (*at < '0' || *at > '9' || at - word > 3)
-            return -1;
-        number = number * 10 + (*at - '0');
-    }
-    return *word == '0' || number < 1 || number > most ? -1 : number;
-}
-
-/* The variable's word; an empty one where it isn't set. */
-static const char *environment(const char *name)
-{
-    const char *word = getenv(name);
-    return word ? word : "";
-}
-
-/* The number that the variable has; the usual one where it isn't set. */
-static int number_in_environment(const char *name, int most, int usual)
-{
-    const char *word = environment(name);
-    int number = *word ? number_up_to(word, most) : usual;
-    if (number < 0)
-        refuse("%s is 1 to %d, not %s", name, most, word);
-    return number;
-}
 
 static void take_keep(struct options *options, const char *word)
 {
@@ -80,8 +51,7 @@ static void take_verbose(struct options *options, const char *word)
 {
     (void)word;
     options->held = true;
-    if (*environment("RECORD_FRAMES") == '\0')
-        options->settings.frames = FRAMES_MOST;
+    options->settings.frames = number_in_environment("RECORD_FRAMES", FRAMES_MOST, FRAMES_MOST);
 }
 
 static void take_held(struct options *options, const char *word)
@@ -111,27 +81,6 @@ static void take_skip(struct options *options, const char *word)
         refuse("--skip takes a function's name without class, namespace or what it is called with, not %s", word);
     options->settings.skip = skip = before ? say_text("%s:%s", before, word) : copy(word);
     free(before);
-}
-
-/* Whether the file is one of right orders of libraries: its first line that says something begins with an object's name. */
-static bool is_of_libraries(const char *path)
-{
-    struct stat found;
-    char *line = NULL;
-    size_t room = 0;
-    bool is_there = stat(path, &found) == 0, is = false, says = false;
-    if (!is_there || S_ISDIR(found.st_mode))
-        return is_there;
-    FILE *file = S_ISREG(found.st_mode) ? fopen(path, "re") : NULL;
-    while (file && !says && getline(&line, &room, file) >= 0) {
-        const char *at = line + strspn(line, " \t\n");
-        says = *at && *at != '#';
-        is = says && *at != '"' && strchr(at, '"');
-    }
-    free(line);
-    if (file)
-        fclose(file);
-    return is;
 }
 
 static void take_ignore(struct options *options, const char *word)
@@ -177,15 +126,6 @@ static void take_new(struct options *options, const char *word)
     options->settings.new_error = number_up_to(word, 255);
     if (options->settings.new_error < 0)
         refuse("--new-exitcode is 1 to 255, not %s", word);
-}
-
-/* A name that may stand in a file of orders. */
-static const char *name_without(const char *option, const char *word, char stop)
-{
-    for (const char *at = word; *at; at++)
-        if ((unsigned char)*at < ' ' || *at == 127 || *at == stop)
-            refuse("%s takes a name without %c and control characters", option, stop);
-    return word;
 }
 
 static void take_run_name(struct options *options, const char *word)
@@ -236,26 +176,6 @@ static void take_judge(struct options *options, const char *word)
     options->settings.judge = true;
 }
 
-/* The words between the commas but that one, which is said to be there; a text that lasts to the end. */
-static const char *words_without(const char *words, const char *word, bool *is_there)
-{
-    static char *volatile left; /* of the last one of these options */
-    size_t length = strlen(word);
-    free(left);
-    left = copy("");
-    for (const char *at = words, *end; *at; at = end + (*end == ',')) {
-        end = at + strcspn(at, ",");
-        if ((size_t)(end - at) == length && memcmp(at, word, length) == 0) {
-            *is_there = true;
-            continue;
-        }
-        char *longer = say_text("%s%s%.*s", left, *left ? "," : "", (int)(end - at), at);
-        free(left);
-        left = longer;
-    }
-    return left;
-}
-
 static void take_alarms(struct options *options, const char *word)
 {
     struct alarms_wanted wanted = {0};
@@ -298,13 +218,6 @@ static void take_noise(struct options *options, const char *word)
     options->settings.noise = word ? number_up_to(word, 1000) : CONFIRM_NOISE_MS;
     if (options->settings.noise < 0)
         refuse("noise is 1 to 1000 milliseconds, not %s", word);
-}
-
-/* What stands after the word's beginning, if it begins so; else NULL. */
-static const char *after_beginning(const char *word, const char *beginning)
-{
-    size_t length = strlen(beginning);
-    return strncmp(word, beginning, length) == 0 ? word + length : NULL;
 }
 
 /* One of the words of --confirm. */
@@ -540,24 +453,6 @@ static char **read_options(struct options *options, char **words, char *const *t
         option->take(options, *++words);
     }
     return words;
-}
-
-/*
- * The words with blanks between them, in apostrophes where a shell wouldn't pass them on as they are; a text that lasts to
- * the end.
- */
-static const char *words_in_line(char **words)
-{
-    static const char plain[] = "ABCDEFGHIJKLMNOPQRSTUVWXYZabcdefghijklmnopqrstuvwxyz0123456789_-+=./,:@%";
-    static char *volatile line;
-    line = copy("");
-    for (; *words; words++) {
-        bool is_plain = **words && (*words)[strspn(*words, plain)] == '\0';
-        char *longer = say_text("%s%s%s%s%s", line, *line ? " " : "", is_plain ? "" : "'", *words, is_plain ? "" : "'");
-        free(line);
-        line = longer;
-    }
-    return line;
 }
 
 /* What is asked of steered runs has to go with the rest. */
