@@ -26,23 +26,25 @@ least() {
     for run in 1 2 3; do
         rm -rf recording home && mkdir -m 777 recording home
         HOME=$work/home RECORDER_DIRECTORY=$work/recording timeout 300 bash -c 'TIMEFORMAT="%R %U %S"; time "$@" >/dev/null 2>&1' - "$@" 2>&1
-    done | awk '{ s = $2 + $3; if (NR == 1 || $1 < wall) wall = $1; if (NR == 1 || s < own) own = s } END { printf "%.2f s (%.2f)", wall, own }'
+    done | awk '{ s = $2 + $3; if (NR == 1 || $1 < wall) wall = $1; if (NR == 1 || s < own) own = s } END { printf "%.2f (%.2f)", wall, own }'
 }
 
 # row NAME COMMAND..
 row() {
     name=$1
     shift
-    printf '%s: %s' "$name" "$(least "$@")"
+    printf '| %s | %s |' "$name" "$(least "$@")"
     for recorder in $recorders; do
-        printf '; %s %s' "$recorder" "$(least env LD_PRELOAD="$recorder" "$@")"
+        printf ' %s |' "$(least env LD_PRELOAD="$recorder" "$@")"
     done
     echo
 }
 
 recorders=$*
-[ -f threads.exe ] && row mono mono threads.exe
-command -v firefox-esr >/dev/null 2>&1 && row firefox firefox-esr --headless --screenshot page.png about:license
-command -v cvlc >/dev/null 2>&1 && row vlc setpriv --reuid=65534 --clear-groups cvlc sound.wav \
+echo "| Seconds, of a processor in brackets | Plain |$(printf ' Recorded |%.0s' "$@")"
+echo "|---|---|$(printf -- '---|%.0s' "$@")"
+[ -f threads.exe ] && row "Mono: five threads that take one lock 200,000 times each" mono threads.exe
+command -v firefox-esr >/dev/null 2>&1 && row "Firefox ESR: a page without a window" firefox-esr --headless --screenshot page.png about:license
+command -v cvlc >/dev/null 2>&1 && row "VLC: a minute of sound transcoded" setpriv --reuid=65534 --clear-groups cvlc sound.wav \
     --sout '#transcode{acodec=mpga}:std{access=file,mux=raw,dst=/dev/null}' vlc://quit
-row python "$(python3 -c 'import sys; print(sys.executable)')" "$here/compiled.py"
+row "\`bench/compiled.py\`: 20,000 functions that were compiled just then" "$(python3 -c 'import sys; print(sys.executable)')" "$here/compiled.py"

@@ -24,7 +24,7 @@ cd "$folder"
 steered() {
     name=$1
     shift
-    RECORD_FRAMES=8 timeout -s KILL 900 "$recorder/record" --on-deadlock kill --confirm="$tries" --confirm-time 600 -- "$@" >told.out 2>told.err </dev/null || true
+    RECORD_FRAMES=8 timeout -s KILL 900 "$recorder/record" --on-deadlock kill --confirm="$tries,time=600" -- "$@" >told.out 2>told.err </dev/null || true
     awk -v name="$name" '/: not confirmed in [0-9]* run/ { sub(/.*: not confirmed in /, ""); runs += $1; reports++ }
         /: not confirmed: seemed to hang/ { reports++; seemed++ }
         /: not tried: / { reports++; untried++ }

@@ -1,6 +1,6 @@
 #!/bin/sh
 # Measures the views that look at a whole state: the graph of 1,023 types with every order (522,753 lines), and the circle
-# among 256 seats that all wait, or that all wait but for the first, so that there is none. A line a view: the least
+# among 256 seats that all wait, or that all wait but for the first, so that there is none. It writes a table: the least
 # processor time of three runs, that of the same trace in `witness replay`, and the peak memory of both. WITNESS names
 # another program to measure, RUNS how often each runs.
 set -e
@@ -38,10 +38,11 @@ replayed, replayed_peak = measure("replay")
 used, peak = measure(view)
 with open(f"{trace}.out", "rb") as it:
     lines = it.read().count(b"\n")
-print(f"{os.path.basename(trace):8} {view:8} {lines:8} {used:8.3f} {peak:8.1f} {replayed:10.3f} {replayed_peak:11.1f}", flush=True)
+print(f"| {view} of {os.path.basename(trace)} | {lines:,} | {used:.3f} | {peak:.1f} | {replayed:.3f} | {replayed_peak:.1f} |", flush=True)
 END
 
-printf '%-8s %-8s %8s %8s %8s %10s %11s\n' trace view lines cpu-s peak-MB replay-s replay-MB
+echo '| View, trace | Lines shown | s | MB | Replay, s | MB |'
+echo '|---|---|---|---|---|---|'
 for pair in orders:graph ring:circle queue:circle; do
     name=${pair%:*}
     "$here/make_trace.sh" "$name" >"$folder/$name"

@@ -1,6 +1,7 @@
 """instructions.py FEW MANY FOLDER TIMES: what the instructions of the recorder are for, by the functions of its sources in FOLDER
 that they stand in, those that were inlined too. FEW and MANY are callgrind's files of two runs, the second of which does TIMES
-more of something: it is told how many instructions each of these takes. bench/instructions.sh runs it."""
+more of something: it is told how many instructions each of these takes, in a row of a table. Without these words the table's
+head is written. bench/instructions.sh runs it."""
 
 import collections
 import os
@@ -16,6 +17,8 @@ KINDS = {
     "the errand": ["errand_releases", "release_of", "errand_keeps"],
     "the chain": ["held_fill", "quick_is_known", "quick_ends", "is_held_once", "quick_released"],
 }
+REST = "the wrapper and the real call"
+ALL_KINDS = [*KINDS, REST]
 KIND_OF = {name: kind for kind, names in KINDS.items() for name in names}
 
 
@@ -54,7 +57,15 @@ def costs(path):
     return cost
 
 
+def head():
+    columns = ["Locks held", "Plain", "Recorded", "Each with its callers", *(kind.capitalize() for kind in ALL_KINDS)]
+    print("| " + " | ".join(columns) + " |")
+    print("|" + "---|" * len(columns))
+
+
 def main():
+    if len(sys.argv) == 1:
+        return head()
     few, many, folder, times = sys.argv[1], sys.argv[2], os.path.realpath(sys.argv[3]), int(sys.argv[4])
     begins, sums, further = {}, collections.Counter(), costs(many)
     further.subtract(costs(few))
@@ -65,9 +76,8 @@ def main():
         if file not in begins:
             begins[file] = functions(file)
         within = [name for number, name in begins[file] if number <= line]
-        sums[KIND_OF.get(within[-1] if within else "", "the wrapper and the real call")] += count
-    for kind in [*KINDS, "the wrapper and the real call"]:
-        print(f"{sums[kind] / times:6.1f}  {kind}")
+        sums[KIND_OF.get(within[-1] if within else "", REST)] += count
+    print(" | ".join(f"{sums[kind] / times:.0f}" for kind in ALL_KINDS) + " |")
 
 
 main()

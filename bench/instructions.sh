@@ -8,6 +8,7 @@ folder=$(mktemp -d)
 trap 'rm -rf "$folder"' EXIT
 cc -O2 -pthread -o "$folder/pairs" "$here/../recorder/test/pairs.c"
 WITNESS=true "$recorder/record" -- true 2>/dev/null
+object=$recorder/out/recorder.so
 few=2000
 many=12000
 
@@ -25,9 +26,11 @@ a_pair() {
     echo $(((to - from) / ((many - few) * $1 * $2)))
 }
 
-for shape in "1 1" "2 1" "5 1" "23 1" "1 4" "2 4" "5 4" "23 4"; do
-    plain=$(a_pair $shape)
-    held=$(RECORDER_FRAMES=8 RECORDER_HELD=1 a_pair $shape "$recorder/out/recorder.so")
-    echo "${shape% *} deep, ${shape#* } threads: plain $plain, with --held-callers $held, recorded $(a_pair $shape "$recorder/out/recorder.so")"
-    [ "${shape#* }" -gt 1 ] || python3 "$here/instructions.py" "$folder/$few" "$folder/$many" "$recorder" $(((many - few) * ${shape% *}))
+python3 "$here/instructions.py"
+for depth in 1 2 5 23; do
+    plain=$(a_pair "$depth" 1)
+    held=$(RECORDER_FRAMES=8 RECORDER_HELD=1 a_pair "$depth" 1 "$object")
+    recorded=$(a_pair "$depth" 1 "$object")
+    echo "| $depth | $plain | $recorded | $held |" \
+        "$(python3 "$here/instructions.py" "$folder/$few" "$folder/$many" "$recorder/runtime" $(((many - few) * depth)))"
 done

@@ -1,9 +1,9 @@
 #!/bin/sh
 # Measures `witness replay` beside plain/plain.rs, a replay in Rust of which nothing is proved, on the traces named,
-# or on those that docs/SPEED.md has of it. What the two write must be the same. A line a trace: the least processor
-# time of three runs of each, in turn, what that makes a line, and the ratio. A name with a 2 behind it (hot2) is that
+# or on those that docs/SPEED.md has of it. What the two write must be the same. It writes a table: the least processor
+# time of three runs of each, in turn, what that makes a line, and the ratio. A name with a 2 after it (hot2) is that
 # of the trace in version 2, as the program migrates it; the trace itself is replayed in turn with it, and what is
-# written must be the same again. Two columns more are the times of version 2 over those of version 1, and a third that
+# written must be the same again. Two columns are the times of version 2 over those of version 1, and a third that
 # of `migrate` over the replay of the trace. WITNESS names another program to measure, RUNS how often each runs, TRACES a
 # folder in which the traces stay for the next time, and RUSTC another compiler.
 set -e
@@ -16,7 +16,7 @@ fi
 folder=$(mktemp -d)
 trap 'rm -rf "$folder"' EXIT
 traces=${TRACES:-$folder}
-[ $# -gt 0 ] || set -- hot seats files names nest chain reports steps random
+[ $# -gt 0 ] || set -- hot hot2 seats seats2 names names2 held held2 nest nest2 files chain reports reports2 steps random
 # Aligned, so that it doesn't matter where a loop comes to lie: a change elsewhere makes up to a third of the time.
 "${RUSTC:-rustc}" --edition 2021 -O -C llvm-args=-align-all-nofallthru-blocks=5 \
     -o "$folder/plain" "$here/plain/plain.rs"
@@ -49,16 +49,16 @@ if not all(filecmp.cmp(texts[0], text, shallow=False) for text in texts[1:]):
 if len(traces) > 1:
     commands.append(([program, "migrate"], traces[1]))
 used = [min(each) for each in zip(*([run(*it, "/dev/null") for it in commands] for _ in range(int(runs))))]
-growth = ""
+growth = " | | "
 if len(traces) > 1:
     new, plain_new, old, plain_old, migrated = used
-    growth = f" {new / old:7.2f} {plain_new / plain_old:9.2f} {migrated / old:9.2f}"
-print(f"{name:8} {lines:9} {used[0]:10.3f} {used[1]:8.3f} {used[0] / lines * 1e9:8.0f} {used[1] / lines * 1e9:8.0f}"
-      f" {used[0] / used[1]:6.2f}{growth}", flush=True)
+    growth = f"{new / old:.2f} | {plain_new / plain_old:.2f} | {migrated / old:.2f}"
+print(f"| {name} | {lines:,} | {used[0] / lines * 1e9:.0f} | {used[1] / lines * 1e9:.0f} | {used[0] / used[1]:.2f}"
+      f" | {growth} |", flush=True)
 END_OF_PYTHON
 
-printf '%-8s %9s %10s %8s %8s %8s %6s %7s %9s %9s\n' \
-    trace lines witness-s plain-s ns/line plain-ns ratio 2/1 plain-2/1 migrate/1
+echo '| Trace | Lines | `witness`, ns a line | Plain, ns | Ratio | Version 2 to 1 | Plain, version 2 to 1 | `migrate` to replay |'
+echo '|---|---|---|---|---|---|---|---|'
 for name; do
     first=${name%2}
     [ -f "$traces/$first" ] || "$here/make_trace.sh" "$first" >"$traces/$first"

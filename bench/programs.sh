@@ -33,11 +33,11 @@ told() {
 
 # Without the lists of right orders of libraries. recorded COMMAND..: to its end. serving COMMAND..: while `load` runs, then it is asked to end.
 recorded() {
-    timeout 600 "$record" --no-default-ignore "$@" >"$out/$run.out" 2>"$out/$run.err" </dev/null
+    timeout 600 "$record" --ignore none "$@" >"$out/$run.out" 2>"$out/$run.err" </dev/null
     told
 }
 serving() {
-    timeout -s INT 600 "$record" --no-default-ignore "$@" >"$out/$run.out" 2>"$out/$run.err" </dev/null &
+    timeout -s INT 600 "$record" --ignore none "$@" >"$out/$run.out" 2>"$out/$run.err" </dev/null &
     server=$!
     load >"$out/$run.load" 2>&1
     wait $server

@@ -1,7 +1,7 @@
 #!/bin/sh
 # Measures what the recorder costs: the nanoseconds of processor time that a pair of lock and unlock takes in a loop
 # that does nothing else, and its ratio to the plain loop. The loop runs plain, recorded, and recorded with
-# --held-callers; with libwitness, awake and asleep, where its verifier stands built; under helgrind and drd where
+# the stacks of all that is held; with libwitness, awake and asleep, where its verifier stands built; under helgrind and drd where
 # valgrind is installed; and built by the compiler for ThreadSanitizer where that can be linked. Then it measures what a
 # start of a program takes, what taking and freeing a block costs while a mutex stands in the heap, the processor time of
 # node under work, and how long a recorder's file takes to become a trace. Of RUNS runs (5) the least counts; the ways take
@@ -50,7 +50,8 @@ if cc -O2 -g -fsanitize=thread -pthread -o "$folder/pairs-tsan" "$here/../record
     TSAN_OPTIONS=report_thread_leaks=0 "$folder/pairs-tsan" 1 1 1 >/dev/null 2>&1; then
     ways="$ways tsan"
 fi
-echo "nanoseconds a pair, and the ratio to plain"
+echo "| Locks held, threads |$(printf ' %s |' $ways)"
+echo "|---|$(printf -- '---|%.0s' $ways)"
 for shape in "1 1" "2 1" "5 1" "23 1" "1 4" "2 4" "5 4" "23 4"; do
     for way in $ways; do
         : >"$folder/$way"
@@ -62,16 +63,18 @@ for shape in "1 1" "2 1" "5 1" "23 1" "1 4" "2 4" "5 4" "23 4"; do
             once "$way" ${shape% *} ${shape#* } >>"$folder/$way"
         done
     done
-    line="${shape% *} deep, ${shape#* } threads:"
+    line="| ${shape% *}, ${shape#* } |"
     least=$(sort -n "$folder/plain" | head -n 1)
     for way in $ways; do
-        line="$line $(sort -n "$folder/$way" | head -n 1 | awk -v way="$way" -v plain="$least" \
-            '{ printf "%s %.1f (%.1f)", way, $1, $1 / plain }')"
+        line="$line $(sort -n "$folder/$way" | head -n 1 | awk -v plain="$least" \
+            '{ printf "%.1f (%.2f) |", $1, $1 / plain }')"
     done
     echo "$line"
 done
 
-# A program whose thread takes two locks and ends.
+echo
+echo '| A program whose thread takes two locks and ends | ms of a processor | kB in memory |'
+echo '|---|---|---|'
 rm -rf "$folder/records"
 mkdir "$folder/records"
 for way in $ways; do
@@ -83,7 +86,7 @@ for way in $ways; do
     plain) ;;
     *) continue ;;
     esac
-    echo "a start, $way: $("$folder/starts" 200 $library "$folder/pairs" 2 1 1)"
+    "$folder/starts" 200 $library "$folder/pairs" 2 1 1 | awk -v way="$way" '{ printf "| %s | %s | %s |\n", way, $1, $3 }'
 done
 
 # seconds COMMAND..: the processor time that it takes with its children.
@@ -104,7 +107,7 @@ compared() {
         measured=1 "$@" >>"$folder/recorded"
     done
     sort -n "$folder/recorded" | head -n 1 | awk -v text="$text" -v plain="$(sort -n "$folder/plain" | head -n 1)" \
-        '{ printf "%s: plain %s recorded %s (%.2f)\n", text, plain, $1, $1 / plain }'
+        '{ printf "| %s | %s | %s | %.2f |\n", text, plain, $1, $1 / plain }'
 }
 
 one_free() {
@@ -123,25 +126,31 @@ one_node() {
     fi
 }
 
+echo
+echo '| Of what | Plain | Recorded | Ratio |'
+echo '|---|---|---|---|'
 for bytes in 100 10000 100000 1000000 10000000; do
-    compared "nanoseconds to take and free $bytes bytes" one_free "$bytes" 20000
+    compared "to take and free $bytes bytes while a mutex stands in the heap, ns" one_free "$bytes" 20000
 done
 for bytes in 24 100 10000; do
     blocks=1
-    compared "nanoseconds to take and free $bytes bytes with --blocks" one_free "$bytes" 20000
+    compared "to take and free $bytes bytes with \`--blocks\`, ns" one_free "$bytes" 20000
     blocks=
 done
 if command -v node >/dev/null; then
-    compared "seconds of node" one_node
+    compared "node with \`bench/load.js\`, s" one_node
 fi
 # A recorder that writes each request.
 cc -std=c11 -D_GNU_SOURCE -DWRITE_ALL -O2 -fPIC -shared -fexceptions -fvisibility=hidden -pthread -static-libgcc -Wl,-z,now \
     -I"$recorder" -I"$recorder/runtime" -o "$folder/all.so" "$recorder"/runtime/*.c "$here/../crates/wit_condensed_c/out/libwit_condensed_c.a" -Wl,--exclude-libs,ALL -ldl
+echo
+echo '| A file of all requests becomes a trace of so many lines | s |'
+echo '|---|---|'
 for rounds in 138000 1380000; do
     rm -rf "$folder/records" && mkdir "$folder/records"
     env RECORDER_DIRECTORY="$folder/records" LD_PRELOAD="$folder/all.so" "$folder/pairs" 4 1 "$rounds" >/dev/null
     file=$(echo "$folder"/records/*.0)
     begin=$(date +%s)
-    "$recorder/record" --trace "$file" >"$folder/trace"
-    echo "resolving $(wc -l <"$folder/trace") lines: $(($(date +%s) - begin)) s"
+    "$here/../tools/trace-of" "$file" >"$folder/trace"
+    echo "| $(wc -l <"$folder/trace") | $(($(date +%s) - begin)) |"
 done

@@ -1,6 +1,6 @@
 #!/bin/sh
 # Measures `witness replay` on the traces named, or on each that make_trace.sh knows, beside a program that only
-# reads the lines (getline in C; awk where there is no C compiler). A line a trace: the least processor time of
+# reads the lines (getline in C; awk where there is no C compiler). It writes a table: the least processor time of
 # three runs, what that makes a line, and the peak memory. WITNESS names another program to measure, RUNS how
 # often each runs, and TRACES a folder in which the traces stay for the next time.
 set -e
@@ -73,11 +73,11 @@ status, wall, used, peak = measure([programs[0], "replay"])
 if status not in (0, 1):
     sys.exit(f"bench: {name}: the program ended with status {status}")
 _, _, reads, _ = measure(programs[1:])
-print(f"{name:8} {lines:9} {os.path.getsize(trace) / 1e6:7.1f} {wall:8.2f} {used:8.2f} {used / lines * 1e9:8.0f}"
-      f" {peak:8.1f} {reads / lines * 1e9:8.0f} {used / reads:7.1f}", flush=True)
+print(f"| {name} | {lines:,} | {used:.2f} | {used / lines * 1e9:.0f} | {reads / lines * 1e9:.0f} | {peak:.1f} |", flush=True)
 END
 
-printf '%-8s %9s %7s %8s %8s %8s %8s %8s %7s\n' trace lines MB seconds cpu-s ns/line peak-MB read-ns ratio
+echo '| Trace | Lines | s | ns a line | Reading alone, ns | Peak, MB |'
+echo '|---|---|---|---|---|---|'
 for name; do
     [ -f "$traces/$name" ] || "$here/make_trace.sh" "$name" >"$traces/$name"
     python3 "$folder/measure.py" "$name" "$traces/$name" "${RUNS:-3}" "$program" "$reader"

@@ -8,7 +8,7 @@ top=$(dirname "$(dirname "$(readlink -f "$0")")")
 room=$(mktemp -d "${TMPDIR:-/tmp}/threads.XXXXXX")
 trap 'rm -rf "$room"' EXIT
 trap 'exit 130' INT TERM
-for name in model table matrix held pool check core adoptions observers seats gates shared locks; do
+for name in model table matrix held pool check known waiting core adoptions observers seats gates shared locks; do
     mkdir -p "$room/crates/wit_$name/out"
     for part in src specs proofs out/rlib; do
         [ ! -d "$top/crates/wit_$name/$part" ] ||
@@ -231,18 +231,19 @@ for _ in $(seq "${RUNS:-5}"); do "$bench/out/threads_bench"; done | awk '
         at = key ~ / [34]$/ ? int((runs[key] + 1) / 2) : 1
         return key in runs ? sprintf("%.1f", of[key, at]) : key
     }
-    function row(name, one, four) { printf "%-42s %9s %9s\n", name, figure(one), figure(four) }
+    function row(name, one, four) { printf "| %s | %s | %s |\n", name, figure(one), figure(four) }
     $5 { keep("look " $2, $6 / $5); next }
     $3 > 200000 { keep($1 " " $2, 3 * $4 / $3) }
     /^calls 1 / { keep("close " length($3 + 9), $7 / 1000); keep("drop " length($3 + 9), $8 / $3) }
     END {
-        row("ns, of all threads together", "1 thread", "4 threads")
-        row("check, note, unlock: nobody shares it", "plain 1", "")
-        row("check, note, unlock: shared", "calls 1", "calls 4")
-        row("lock, unlock: Mutex of std", "std 1", "std 4")
-        row("lock, unlock: Mtx over CondGate", "cond 1", "cond 4")
-        row("lock, unlock: Mtx over SpinGate", "spin 1", "spin 4")
-        row("Observer::known: alone, beside 3 threads", "look 0", "look 3")
-        row("close of 100,000 and 1,000,000 entries, us", "close 6", "close 7")
-        row("letting them go, ns an entry", "drop 6", "drop 7")
+        print "| Turn of all threads together, ns | 1 thread | 4 threads |"
+        print "|---|---|---|"
+        row("check, note and unlock of a mutex, by a verifier that nobody shares", "plain 1", "")
+        row("by a shared one, each thread with a mutex of its own", "calls 1", "calls 4")
+        row("lock and unlock of a `std::sync::Mutex`, one for all", "std 1", "std 4")
+        row("of a watched `Mtx` over `CondGate`, one for all", "cond 1", "cond 4")
+        row("of a watched `Mtx` over `SpinGate`, one for all", "spin 1", "spin 4")
+        row("`Observer::known`; beside three threads that make calls", "look 0", "look 3")
+        row("a close, microseconds: of 100,000 entries; of 1,000,000", "close 6", "close 7")
+        row("to let these go, for each entry", "drop 6", "drop 7")
     }'

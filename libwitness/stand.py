@@ -1,5 +1,5 @@
 # For gdb: the program stops at each report of libwitness, and gdb stands in the frame that asks for the lock, not in the
-# library's.  gdb -x stand.py --args PROGRAM ..  (record --gdb does that)
+# library's.  gdb -x stand.py --args PROGRAM ..  (record --on-report gdb does that)
 import os
 
 import gdb

@@ -24,8 +24,8 @@ python_tests() {
     "$record" --log-file log -- "$python" untold.py >out 2>err && echo done | diff - out &&
         echo 'witness: not seen: asyncio.Lock, asyncio.Semaphore, multiprocessing.Lock' | diff - err
     tell python "locks that aren't told are named, $version" $?
-    options="--judge" told crowd "$python" crowd.py
-    tell python "a hundred threads, recorded in full and judged, $version" $?
+    options="-o kept" told crowd "$python" crowd.py && is_of_locks kept
+    tell python "a hundred threads, whose trace is one of locks, $version" $?
 }
 
 if wanted python python3; then
@@ -43,10 +43,10 @@ if wanted python python3; then
     fi
     # Python joins threads by pthread_join from 3.13 on.
     without='s/; apart: one thread was joined before the other did so$//'
-    options="--frames 4 --gen-suppressions" told bank.python.callers python3 -m witness bank.py
+    RECORD_FRAMES=4 options="--gen-suppressions" told bank.python.callers python3 -m witness bank.py
     tell python "functions, threads, and lines for the ignore file" $?
     without=
-    options="--frames 5" told helper python3 helper.py
+    RECORD_FRAMES=5 told helper python3 helper.py
     tell python "the callers of a helper" $?
     printf '%s\n' 'import sys, bank' 'print(sys.argv, __name__)' >words.py
     python3 -m witness words.py a b >one && python3 words.py a b | diff - one &&

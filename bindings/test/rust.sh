@@ -27,7 +27,7 @@ of_parking_lot() {
     for kind in debug release; do
         case $kind in debug) profile= ;; *) profile=--release ;; esac
         (cd parked && cargo build -q --offline $profile) >../cargo.log 2>&1 || { cat ../cargo.log && false; }
-        (cd parked && "$record" --frames 8 -- "$work/target/$kind/parked" >../out 2>../err)
+        (cd parked && RECORD_FRAMES=8 "$record" -- "$work/target/$kind/parked" >../out 2>../err)
         echo transfer | diff - out && sed -n 's/^ 1st ".*" (.*, \(.*\)) @ /1st \1 @ /p; s/^ 2nd ".*" (.*, \(.*\)) @ /2nd \1 @ /p
             s/^ ".*" -> ".*" @ /order @ /p; s/^  \(parked::[a-z]*\) (/\1 (/p' err >told.parked
         printf '%s\n' '1st rw @ src/main.rs:22' '2nd sleep mutex @ src/main.rs:23' 'order @ src/main.rs:17' \
@@ -56,18 +56,18 @@ if wanted rust cargo; then
         told oneline "$work/target/$kind/examples/oneline"
         tell rust "two locks that one line makes, $kind" $?
     done
-    "$record" --frames 8 --gen-suppressions -- "$work/target/debug/examples/shelf" 2>&1 | sed -n '2,3p; /^"/p' >told.fields
+    RECORD_FRAMES=8 "$record" --gen-suppressions -- "$work/target/debug/examples/shelf" 2>&1 | sed -n '2,3p; /^"/p' >told.fields
     printf '%s\n' ' 1st "Shelf::index" (Shelf::index, rw) @ examples/shelf.rs:32' \
         ' 2nd "Shelf::books" (Shelf::books, sleep mutex) @ examples/shelf.rs:33' '"Shelf::index" "Shelf::books"' | diff - told.fields
     tell rust "locks in fields, which debug information has" $?
     printf '%s\n' '"RwLock<usize> (shelf.rs)" "Mutex<Vec<i32>> (shelf.rs)"' >list
-    "$record" --frames 8 --ignore list -- "$work/target/debug/examples/shelf" 2>&1 | tail -n 1 >told.fields
+    RECORD_FRAMES=8 "$record" --ignore list -- "$work/target/debug/examples/shelf" 2>&1 | tail -n 1 >told.fields
     grep -q '^record: nothing in what was recorded: list silences 1 report; not seen: ' told.fields
     tell rust "and by their labels in the ignore file" $?
-    # Each line of a full trace stands where the real step can have been.
-    options="--judge" told contend "$work/target/release/examples/contend" && [ "$(cat recorded.out)" = "8000 2000 8000" ]
-    tell rust "threads that contend, recorded in full and judged" $?
-    options="--frames 4 --gen-suppressions" told bank.callers "$work/target/debug/examples/bank"
+    # Each line of a trace stands where the real step can have been.
+    options="-o kept" told contend "$work/target/release/examples/contend" && [ "$(cat recorded.out)" = "8000 2000 8000" ] && is_of_locks kept
+    tell rust "threads that contend, whose trace is one of locks" $?
+    RECORD_FRAMES=4 options="--gen-suppressions" told bank.callers "$work/target/debug/examples/bank"
     tell rust "threads, and lines for the ignore file" $?
     if [ -n "$(find /usr/share/cargo/registry -maxdepth 1 -name 'tokio-[0-9]*' 2>/dev/null)" ]; then
         of_tokio

@@ -1,13 +1,13 @@
 # Tests of what an installed libwitness is found by: pkg-config, CMake and meson. Read by `run`, whose functions it uses.
 
-# block HEADING NUMBER: the indented block of that number behind the line of docs/RECORDER.md that begins so.
+# block HEADING NUMBER: the indented block of that number below the line of docs/recording.md that begins so.
 block() {
     awk -v heading="$1" -v wanted="$2" '
         index($0, heading) == 1 { inside = 1; next }
         inside && /^    / { if (!within) number++; within = 1; if (number == wanted) print substr($0, 5); next }
         inside && /^$/ { if (within && number == wanted) print ""; next }
         inside && number >= wanted { exit }
-        { within = 0 }' "$top/docs/RECORDER.md"
+        { within = 0 }' "$top/docs/recording.md"
 }
 
 by_pkg_config() {

@@ -12,21 +12,21 @@ elif wanted record; then
             grep -q '^ 2nd "pool" (pool, sleep mutex) @ reversal.c:19$' err && grep -q '^record: 1 report, ' err
         tell record "--on-report ${way%:*}" $?
     done
-    $record --frames 2 --on-report exit=5 -- ./reversal 2>err
+    env WITNESS="$program" LIBWITNESS="$lib/libwitness.so.1" RECORD_FRAMES=2 "$top/recorder/record" --on-report exit=5 -- ./reversal 2>err
     grep -q '^single locks: both orders, the same locks, threads [0-9]* and [0-9]*; apart: ' err
     tell record "the single locks of a report that ends it" $?
     $record --on-report tell -- ./reversal 2>err && diff "$top/recorder/test/reversal.want" err
     tell record "--on-report tell" $?
     $record --on-report none -- ./reversal 2>err
-    [ $? -eq 2 ] && grep -q '^record: --on-report is tell, stop, trap, abort or exit=N' err
+    [ $? -eq 2 ] && grep -q '^record: --on-report is gdb, tell, stop, trap, abort or exit=N' err
     tell record "a word that isn't one" $?
     LIBWITNESS=none WITNESS=$program "$top/recorder/record" --on-report abort -- ./reversal 2>err
     [ $? -eq 126 ] && grep -q "libwitness, which isn't built" err
     tell record "no library" $?
     if command -v gdb >/dev/null 2>&1; then
-        printf 'run\nkill\n' | $record --gdb -- ./reversal >out 2>err
+        printf 'run\nkill\n' | $record --on-report gdb -- ./reversal >out 2>err
         grep -q '^19.*pthread_mutex_lock(&pool);' out && grep -q '^lock order reversal:$' err && ! grep -q 'nothing is known' err
-        tell record "--gdb stands at the line" $?
+        tell record "--on-report gdb stands at the line" $?
     else
         echo "left out  record: there is no gdb"
     fi

@@ -149,7 +149,7 @@ static char *advice_on_error(const char *lock, size_t number)
     if (number == 1)
         return copy("Release a lock before its thread ends, and before it is destroyed, freed or made anew; hold the "
                     "mutex of a condition where that is waited for.");
-    return copy("If it is meant, --errors no tells nothing of such.");
+    return copy("If it is meant, --alarms no-errors tells nothing of such.");
 }
 
 char *advice(const struct report *report, const struct alarm *alarm, size_t number)

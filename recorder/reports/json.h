@@ -1,6 +1,5 @@
 /*
- * The findings of a run as JSON, for programs that read them: docs/RECORDER.md says what stands in it, and
- * recorder/schema/findings.schema.json says it strictly.
+ * The findings of a run as JSON, for programs that read them: recorder/schema/findings.schema.json says what stands in it.
  */
 #ifndef RECORD_JSON_H
 #define RECORD_JSON_H

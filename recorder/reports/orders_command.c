@@ -25,13 +25,19 @@ static const char text[] =
     "orders merge [-o FILE] FILE..     all of them, each once: to standard output, or a file, with counts beside it\n"
     "orders text FILE..                each type, and below it what may be asked for while it is held\n"
     "orders unseen N FILE..            those that weren't met in the last N runs\n"
+    "orders learn [OPTIONS] FILE ..    runs a program as `record --learn FILE ..` does; what follows are words of record\n"
+    "orders known [OPTIONS] FILE ..    runs it as `record --known FILE ..` does\n"
     "A file has a line for each order, CLASS \"TYPE\" > CLASS \"TYPE\", as record --learn writes it. One without\n"
     "FILE.runs beside it is that of one run. The options of judge:\n"
     "  --ignore FILE  lines \"TYPE\" \"TYPE\": either order is all right\n"
     "  --gen-suppressions   below each report the line for that file\n"
     "  --graph FILE   a picture of the orders, what is reported red: FILE.svg where dot is there, or FILE.dot\n"
     "  --html FILE    a page with the reports and the picture\n"
-    "Status: 0; 1 where judge reports a circle or unseen names an order; 2 where the command line is wrong or a file\n"
+    "The options of learn and known:\n"
+    "  --run-name NAME      what the run is called in the file; else each process has its program's name\n"
+    "  --program-name NAME  what the program's own object is called there, for tests that are linked from the same sources\n"
+    "  --new-exitcode N     of known: the status, 1 to 255, where there are new orders, and the program's is 0\n"
+    "Status: that of record for learn and known; else 0; 1 where judge reports a circle or unseen names an order; 2 where the command line is wrong or a file\n"
     "is no file of orders; 126 where something is missing.\n";
 
 /* What is asked for by options. */
@@ -45,7 +51,7 @@ struct wanted {
 static const char *word_after(char ***words)
 {
     if (!(*words)[1])
-        refuse("%s needs a word behind it", **words);
+        refuse("%s needs a word after it", **words);
     return *++*words;
 }
 
@@ -273,5 +279,5 @@ int orders_command(const char *here, char **words)
         return tell_text(witness, words + 1);
     if (strcmp(word, "unseen") == 0)
         return tell_unseen(witness, words + 1);
-    refuse("%s is none of judge, merge, text and unseen", *word ? word : "nothing");
+    refuse("%s is none of judge, merge, text, unseen, learn and known", *word ? word : "nothing");
 }

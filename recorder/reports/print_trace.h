@@ -1,5 +1,5 @@
 /*
- * What `record --trace` does.
+ * What tools/trace-of does.
  */
 #ifndef RECORD_PRINT_TRACE_H
 #define RECORD_PRINT_TRACE_H

@@ -10,11 +10,9 @@
 static const struct {
     const char *option, *words;
 } words_of[] = {
-    {"--alarms", "all locks threads gate readers timed apart confirmed"},
-    {"--completion", "bash zsh fish"},
-    {"--errors", "yes no"},
+    {"--alarms", "all locks threads gate readers timed apart confirmed no-errors"},
     {"--on-deadlock", "tell kill exit="},
-    {"--on-report", "tell stop trap abort exit="},
+    {"--on-report", "gdb tell stop trap abort exit="},
 };
 
 static const char *choices(const char *option)

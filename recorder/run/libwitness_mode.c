@@ -38,7 +38,7 @@ char *inside_library(const char *here)
     free(built);
     free(installed);
     if (!path)
-        fail("--on-report and --gdb need libwitness, which isn't built: make builds it");
+        fail("--on-report needs libwitness, which isn't built: make builds it");
     return path;
 }
 
@@ -56,7 +56,7 @@ char **inside_debugger(const char *here, const char *library, char **program)
     size_t words = 0, count = 0;
     char *stand = say_text("%s/../libwitness/stand.py", here);
     if (!file_is_command("gdb"))
-        fail("--gdb needs gdb, which isn't there");
+        fail("--on-report gdb needs gdb, which isn't there");
     while (program[words])
         words++;
     char **debugger = take((words + DEBUGGER_WORDS) * sizeof *debugger);

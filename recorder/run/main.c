@@ -1,7 +1,8 @@
 /*
  * record FOLDER WORDS..: runs a program and watches what it does with its locks. FOLDER is that of the recorder's sources,
  * and WORDS are those of the command line; recorder/record builds this and becomes it. The recorder's own object stands
- * beside this program. With --orders for the first of the words it is the command `orders` (recorder/orders).
+ * beside this program. With --orders for the first of the words it is the command `orders` (recorder/orders), and with --tool it
+ * is run by a tool of the repository, which may ask for what no user needs (tools/completion, tools/trace-of).
  */
 #include <errno.h>
 #include <fcntl.h>
@@ -23,6 +24,7 @@
 #include "options.h"
 #include "orders_command.h"
 #include "orders_verdict.h"
+#include "orders_words.h"
 #include "prepare.h"
 #include "print_trace.h"
 #include "replayer.h"
@@ -168,9 +170,13 @@ int main(int count, char **words)
     built = folder_of(words[0]);
     if (is_for_once(built))
         prepare_removes(work = built);
-    if (words[2] && strcmp(words[2], "--orders") == 0)
+    bool is_orders = words[2] && strcmp(words[2], "--orders") == 0, is_tool = words[2] && strcmp(words[2], "--tool") == 0;
+    if (is_orders && !orders_run_a_program(words + 3))
         return orders_command(words[1], words + 3);
-    options_read(&options, words[1], words + 2);
+    struct orders_words as_record = {words + 2 + is_tool, is_tool ? (size_t)count - 3 : 0};
+    if (is_orders)
+        as_record = orders_words(words + 3);
+    options_read(&options, words[1], as_record.word, as_record.untold);
     options.settings.witness = judge_of(words[1], "WITNESS", "witness");
     prepare_files(&options.settings);
     if (options.trace) {

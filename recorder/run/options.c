@@ -14,21 +14,12 @@
 #include "graph.h"
 #include "libwitness_mode.h"
 #include "allocation.h"
+#include "option_words.h"
 #include "output_files.h"
 #include "right_orders.h"
 #include "usage.h"
 
-/* The number that the word is, without a sign or zeroes before it; -1 where it isn't one from 1 to `most`. */
-static int number_up_to(const char *word, int most)
-{
-    int number = 0;
-    for (const char *at = word; *at; at++) {
-        if (*at < '0' || *at > '9' || at - word > 3)
-            return -1;
-        number = number * 10 + (*at - '0');
-    }
-    return *word == '0' || number < 1 || number > most ? -1 : number;
-}
+enum { FRAMES_MOST = 16, FRAMES_USUAL = 8, DEPTH_MOST = 4, DEPTH_USUAL = 2 };
 
 static void take_keep(struct options *options, const char *word)
 {
@@ -37,16 +28,30 @@ static void take_keep(struct options *options, const char *word)
 
 static void take_depth(struct options *options, const char *word)
 {
-    options->depth = number_up_to(word, 4);
+    options->depth = number_up_to(word, DEPTH_MOST);
     if (options->depth < 0)
         refuse("--depth is 1 to 4, not %s", word);
 }
 
 static void take_frames(struct options *options, const char *word)
 {
-    options->settings.frames = number_up_to(word, 16);
+    options->settings.frames = number_up_to(word, FRAMES_MOST);
     if (options->settings.frames < 0)
         refuse("--frames is 1 to 16, not %s", word);
+}
+
+static void take_brief(struct options *options, const char *word)
+{
+    (void)word;
+    options->settings.frames = 1;
+}
+
+/* Who has said how many frames he wants has these. */
+static void take_verbose(struct options *options, const char *word)
+{
+    (void)word;
+    options->held = true;
+    options->settings.frames = number_in_environment("RECORD_FRAMES", FRAMES_MOST, FRAMES_MOST);
 }
 
 static void take_held(struct options *options, const char *word)
@@ -80,7 +85,12 @@ static void take_skip(struct options *options, const char *word)
 
 static void take_ignore(struct options *options, const char *word)
 {
-    options->settings.ignore = word;
+    if (strcmp(word, "none") == 0)
+        options->settings.right = "-";
+    else if (is_of_libraries(word))
+        options->settings.right = word;
+    else
+        options->settings.ignore = word;
 }
 
 static void take_error(struct options *options, const char *word)
@@ -116,15 +126,6 @@ static void take_new(struct options *options, const char *word)
     options->settings.new_error = number_up_to(word, 255);
     if (options->settings.new_error < 0)
         refuse("--new-exitcode is 1 to 255, not %s", word);
-}
-
-/* A name that may stand in a file of orders. */
-static const char *name_without(const char *option, const char *word, char stop)
-{
-    for (const char *at = word; *at; at++)
-        if ((unsigned char)*at < ' ' || *at == 127 || *at == stop)
-            refuse("%s takes a name without %c and control characters", option, stop);
-    return word;
 }
 
 static void take_run_name(struct options *options, const char *word)
@@ -178,10 +179,12 @@ static void take_judge(struct options *options, const char *word)
 static void take_alarms(struct options *options, const char *word)
 {
     struct alarms_wanted wanted = {0};
-    if (!alarms_words(word, &wanted))
-        refuse("--alarms takes all, locks or threads, and gate, readers, timed, apart and confirmed, by commas, not %s",
+    const char *words = words_without(word, "no-errors", &options->settings.no_errors);
+    if ((*words || !options->settings.no_errors) && !alarms_words(words, &wanted))
+        refuse("--alarms takes all, locks or threads, and gate, readers, timed, apart, confirmed and no-errors, by commas, "
+               "not %s",
             word);
-    options->settings.alarms = word;
+    options->settings.alarms = *words ? words : NULL;
     options->counts_confirmed = wanted.confirmed;
 }
 
@@ -193,18 +196,11 @@ static void take_deadlock(struct options *options, const char *word)
     options->settings.on_deadlock = word;
 }
 
-static void take_confirm(struct options *options, const char *word)
-{
-    options->settings.confirm = word ? number_up_to(word, 100) : CONFIRM_RUNS;
-    if (options->settings.confirm < 0)
-        refuse("--confirm is 1 to 100 runs for each report, not %s", word);
-}
-
 static void take_confirm_time(struct options *options, const char *word)
 {
     options->settings.confirm_seconds = number_up_to(word, 9999);
     if (options->settings.confirm_seconds < 0)
-        refuse("--confirm-time is 1 to 9999 seconds, not %s", word);
+        refuse("the time of --confirm is 1 to 9999 seconds, not %s", word);
 }
 
 static void take_confirm_from(struct options *options, const char *word)
@@ -221,20 +217,58 @@ static void take_noise(struct options *options, const char *word)
 {
     options->settings.noise = word ? number_up_to(word, 1000) : CONFIRM_NOISE_MS;
     if (options->settings.noise < 0)
-        refuse("--noise is 1 to 1000 milliseconds, not %s", word);
+        refuse("noise is 1 to 1000 milliseconds, not %s", word);
 }
 
-static void take_on_report(struct options *options, const char *word)
+/* One of the words of --confirm. */
+static void take_confirm_word(struct options *options, const char *word)
 {
-    if (!inside_word(word))
-        refuse("--on-report is tell, stop, trap, abort or exit=N, where N is 1 to 255, not %s", word);
-    options->on_report = word;
+    const char *seconds = after_beginning(word, "time="), *pause = after_beginning(word, "noise=");
+    if (seconds)
+        take_confirm_time(options, seconds);
+    else if (pause || strcmp(word, "noise") == 0)
+        take_noise(options, pause);
+    else
+        options->settings.confirm = number_up_to(word, 100);
+    if (options->settings.confirm < 0)
+        refuse("--confirm takes 1 to 100 runs for each report, time=SECONDS, noise, and last from=FILE, by commas, not %s",
+            word);
+    if (seconds && options->settings.confirm == 0)
+        options->settings.confirm = CONFIRM_RUNS;
+}
+
+/* A name of a file may have commas. */
+static void take_confirm(struct options *options, const char *words)
+{
+    if (!words || !*words)
+        options->settings.confirm = CONFIRM_RUNS;
+    for (const char *at = words, *end; at && *at; at = end + (*end == ',')) {
+        const char *file = after_beginning(at, "from=");
+        end = file ? at + strlen(at) : at + strcspn(at, ",");
+        char *word = copy_bytes(at, (size_t)(end - at));
+        if (file)
+            take_confirm_from(options, file);
+        else
+            take_confirm_word(options, word);
+        free(word);
+    }
 }
 
 static void take_gdb(struct options *options, const char *word)
 {
     (void)word;
     options->gdb = options->settings.in_debugger = true;
+}
+
+static void take_on_report(struct options *options, const char *word)
+{
+    bool is_gdb = strcmp(word, "gdb") == 0;
+    if (!is_gdb && !inside_word(word))
+        refuse("--on-report is gdb, tell, stop, trap, abort or exit=N, where N is 1 to 255, not %s", word);
+    if (is_gdb)
+        take_gdb(options, NULL);
+    else
+        options->on_report = word;
 }
 
 static void take_errors(struct options *options, const char *word)
@@ -289,7 +323,7 @@ static void take_version(struct options *options, const char *word)
 
 static void take_completion(struct options *options, const char *word);
 
-static const struct option {
+struct option {
     const char *name;
     /*
      * What stands after it; OUTPUT is a file that is written, INPUT one that is read, and MAYBE a word that stands after `=`
@@ -297,49 +331,62 @@ static const struct option {
      */
     enum { ALONE, WORD, OUTPUT, INPUT, MAYBE } after;
     void (*take)(struct options *options, const char *word);
-} known[] = {
+};
+
+static const struct option known[] = {
     {"-o", OUTPUT, take_keep},
-    {"--depth", WORD, take_depth},
-    {"--frames", WORD, take_frames},
-    {"--semaphores", ALONE, take_semaphores},
-    {"--blocks", ALONE, take_blocks},
-    {"--held-callers", ALONE, take_held},
-    {"--skip", WORD, take_skip},
-    {"--ignore", INPUT, take_ignore},
-    {"--default-ignore", INPUT, take_right},
-    {"--no-default-ignore", ALONE, take_no_right},
-    {"--error-exitcode", WORD, take_error},
-    {"--learn", OUTPUT, take_learn},
-    {"--known", INPUT, take_known},
-    {"--new-exitcode", WORD, take_new},
-    {"--run-name", WORD, take_run_name},
-    {"--program-name", WORD, take_program_name},
-    {"--graph", OUTPUT, take_graph},
+    {"--log-file", OUTPUT, take_log},
     {"--html", OUTPUT, take_html},
     {"--sarif", OUTPUT, take_sarif},
     {"--json", OUTPUT, take_json},
-    {"--log-file", OUTPUT, take_log},
-    {"--gen-suppressions", ALONE, take_suppressions},
-    {"--judge", ALONE, take_judge},
+    {"--brief", ALONE, take_brief},
+    {"--verbose", ALONE, take_verbose},
+    {"--quiet", ALONE, take_quiet},
+    {"--color", MAYBE, take_colour},
+    {"--error-exitcode", WORD, take_error},
     {"--alarms", WORD, take_alarms},
+    {"--ignore", INPUT, take_ignore},
+    {"--gen-suppressions", ALONE, take_suppressions},
+    {"--learn", OUTPUT, take_learn},
+    {"--known", INPUT, take_known},
     {"--confirm", MAYBE, take_confirm},
-    {"--confirm-time", WORD, take_confirm_time},
-    {"--confirm-from", INPUT, take_confirm_from},
-    {"--before", WORD, take_before},
-    {"--noise", MAYBE, take_noise},
-    {"--errors", WORD, take_errors},
     {"--on-deadlock", WORD, take_deadlock},
     {"--on-report", WORD, take_on_report},
-    {"--gdb", ALONE, take_gdb},
-    {"--color", MAYBE, take_colour},
-    {"--quiet", ALONE, take_quiet},
+    {"--skip", WORD, take_skip},
+    {"--semaphores", ALONE, take_semaphores},
+    {"--blocks", ALONE, take_blocks},
     {"--show", INPUT, take_target},
-    {"--trace", INPUT, take_trace},
-    {"--clean", INPUT, take_clean},
     {"--help", ALONE, take_help},
     {"-h", ALONE, take_help},
     {"--version", ALONE, take_version},
-    {"--completion", WORD, take_completion},
+};
+
+/* Options of earlier versions, and what is to be used in their place. Those that are no more have no `take`. */
+static const struct earlier {
+    struct option option;
+    const char *instead;
+} earlier[] = {
+    {{"--depth", WORD, take_depth}, "RECORDER_DEPTH=N in the environment"},
+    {{"--frames", WORD, take_frames}, "--brief, --verbose, or RECORD_FRAMES=N in the environment"},
+    {{"--held-callers", ALONE, take_held}, "--verbose"},
+    {{"--default-ignore", INPUT, take_right}, "--ignore FILE"},
+    {{"--no-default-ignore", ALONE, take_no_right}, "--ignore none"},
+    {{"--new-exitcode", WORD, take_new}, "orders known --new-exitcode N FILE -- PROGRAM"},
+    {{"--run-name", WORD, take_run_name}, "orders learn --run-name NAME FILE -- PROGRAM"},
+    {{"--program-name", WORD, take_program_name}, "orders learn --program-name NAME FILE -- PROGRAM"},
+    {{"--graph", OUTPUT, take_graph}, "--html FILE, a page with the pictures"},
+    {{"--judge", ALONE, take_judge}, "-o TRACE, and then witness migrate <TRACE"},
+    {{"--confirm-time", WORD, take_confirm_time}, "--confirm=time=SECONDS"},
+    {{"--confirm-from", INPUT, take_confirm_from}, "--confirm=from=FILE"},
+    {{"--before", WORD, take_before}, "-- sh -c 'COMMAND; exec PROGRAM'"},
+    {{"--noise", MAYBE, take_noise}, "--confirm=noise"},
+    {{"--errors", WORD, take_errors}, "--alarms no-errors"},
+    {{"--gdb", ALONE, take_gdb}, "--on-report gdb"},
+    {{"--trace", INPUT, take_trace}, "-o TRACE --show FILE"},
+    {{"--clean", INPUT, take_clean}, "witness clean <FILE"},
+    {{"--completion", WORD, take_completion}, "tools/completion, or what tools/install puts under share"},
+    {{"--full", ALONE, NULL}, "what is left out changes no verdict"},
+    {{"--profile", WORD, NULL}, "a request is compared with all locks that its thread holds, always"},
 };
 
 static void take_completion(struct options *options, const char *word)
@@ -357,14 +404,6 @@ static void take_completion(struct options *options, const char *word)
     exit(0);
 }
 
-/* Options of earlier versions, and what stands in their place. */
-static const struct {
-    const char *name, *instead;
-} gone[] = {
-    {"--full", "what is left out changes no verdict"},
-    {"--profile", "a request is compared with all locks that its thread holds, always"},
-};
-
 /* Whether the word is that option, and what stands after its `=`. */
 static bool is_option(const struct option *option, const char *word)
 {
@@ -372,24 +411,36 @@ static bool is_option(const struct option *option, const char *word)
     return strncmp(option->name, word, length) == 0 && (!word[length] || (option->after == MAYBE && word[length] == '='));
 }
 
-static const struct option *option_of(const char *word)
+static const struct option *option_of_earlier(const char *word, bool is_told)
+{
+    for (size_t i = 0; i < sizeof earlier / sizeof *earlier; i++) {
+        const struct option *option = &earlier[i].option;
+        if (!is_option(option, word))
+            continue;
+        if (!option->take)
+            refuse("%s is gone: %s", option->name, earlier[i].instead);
+        if (is_told)
+            fprintf(stderr, "record: %s goes: use %s\n", option->name, earlier[i].instead);
+        return option;
+    }
+    refuse("there is no option %s", word);
+}
+
+static const struct option *option_of(const char *word, bool is_told)
 {
     for (size_t i = 0; i < sizeof known / sizeof *known; i++)
         if (is_option(&known[i], word))
             return &known[i];
-    for (size_t i = 0; i < sizeof gone / sizeof *gone; i++)
-        if (strcmp(gone[i].name, word) == 0)
-            refuse("%s is gone: %s", word, gone[i].instead);
-    refuse("there is no option %s", word);
+    return option_of_earlier(word, is_told);
 }
 
-/* Reads the options. The answer is the first word that is none. */
-static char **read_options(struct options *options, char **words)
+/* Reads the options. The answer is the first word that is none. Of those before `told` nothing is told. */
+static char **read_options(struct options *options, char **words, char *const *told)
 {
     for (; *words && **words == '-'; words++) {
         if (strcmp(*words, "--") == 0)
             return words + 1;
-        const struct option *option = option_of(*words);
+        const struct option *option = option_of(*words, words >= told);
         if (option->after == ALONE || option->after == MAYBE) {
             const char *equals = strchr(*words, '=');
             option->take(options, equals ? equals + 1 : NULL);
@@ -402,24 +453,6 @@ static char **read_options(struct options *options, char **words)
         option->take(options, *++words);
     }
     return words;
-}
-
-/*
- * The words with blanks between them, in apostrophes where a shell wouldn't pass them on as they are; a text that lasts to
- * the end.
- */
-static const char *words_in_line(char **words)
-{
-    static const char plain[] = "ABCDEFGHIJKLMNOPQRSTUVWXYZabcdefghijklmnopqrstuvwxyz0123456789_-+=./,:@%";
-    static char *volatile line;
-    line = copy("");
-    for (; *words; words++) {
-        bool is_plain = **words && (*words)[strspn(*words, plain)] == '\0';
-        char *longer = say_text("%s%s%s%s%s", line, *line ? " " : "", is_plain ? "" : "'", *words, is_plain ? "" : "'");
-        free(line);
-        line = longer;
-    }
-    return line;
 }
 
 /* What is asked of steered runs has to go with the rest. */
@@ -435,23 +468,19 @@ static void check_confirm(const struct options *options, const char *other)
     if (confirms && options->gdb)
         refuse("--confirm and --gdb are one or the other");
     if (confirms && options->settings.frames == 1)
-        refuse("--confirm needs stacks: --frames is 2 or more then");
+        refuse("--confirm needs stacks, which --brief and RECORD_FRAMES=1 leave out");
 }
 
-void options_read(struct options *options, const char *here, char **words)
+void options_read(struct options *options, const char *here, char **words, size_t untold)
 {
     static char *volatile directory; /* lasts to the end, also where the settings come to name another one */
-    const char *frames = getenv("RECORD_FRAMES");
     directory = get_current_dir_name();
-    if (!frames || *frames == '\0')
-        frames = "8";
-    *options = (struct options){.here = here, .depth = 2};
+    *options = (struct options){.here = here};
+    options->depth = number_in_environment("RECORDER_DEPTH", DEPTH_MOST, DEPTH_USUAL);
     options->settings.directory = directory ? directory : "";
-    options->settings.frames = number_up_to(frames, 16);
+    options->settings.frames = number_in_environment("RECORD_FRAMES", FRAMES_MOST, FRAMES_USUAL);
     options->settings.confirm_seconds = CONFIRM_SECONDS;
-    if (options->settings.frames < 0)
-        refuse("RECORD_FRAMES is 1 to 16, not %s", frames);
-    options->program = read_options(options, words);
+    options->program = read_options(options, words, words + untold);
     const char *other = options->target ? "--show" : options->trace ? "--trace" : options->clean ? "--clean" : NULL;
     if (other && *options->program)
         refuse("%s runs no program, so %s means nothing", other, *options->program);

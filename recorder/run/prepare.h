@@ -22,7 +22,7 @@ char *prepare_records(struct settings *settings, const char *work);
 /* What the recorder reads when the program loads it. */
 void prepare_environment(const struct options *options, const char *records);
 
-/* Of --noise: requests with something held wait a little, at random. After prepare_environment. */
+/* Of --confirm=noise: requests with something held wait a little, at random. After prepare_environment. */
 void prepare_noise(const struct options *options, const char *records);
 
 /* Until then the kernel tells of this process, too, in which folder the recording is: it has the status mapped. */

@@ -1,6 +1,6 @@
 /*
  * The errand of a thread: what it got and let go since it last had nothing. By it two threads can come to their requests at
- * once, or can't (docs/RECORDER.md, "How it hangs").
+ * once, or can't (docs/recording.md, "How it hangs").
  *
  * What the thread still holds stands in its chain. Here is kept what it released meanwhile, while it held others: each
  * release with where in the chain the lock stood, and how long that was. So all is known in its sequence (errand.c): what

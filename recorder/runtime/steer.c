@@ -1,5 +1,5 @@
 /*
- * Where a steered run pauses (docs/RECORDER.md, "A report that is made to hang").
+ * Where a steered run pauses (docs/recording.md, "A report that is made to hang").
  *
  * A thread that holds a lock and asks for another at a place of the plan stands there before the real call. Where those that
  * stand wait for one another in a circle, by what they want and what they hold, all of them are let go: they really hang by

@@ -2,7 +2,7 @@
 
 # alarm HOW WANTED: what stands below the report of `single HOW`, with N and M for the numbers of threads.
 alarm() {
-    RECORD_FRAMES=8 "$record" --quiet --depth 1 -- ./single "$1" 2>recorded.err
+    RECORDER_DEPTH=1 RECORD_FRAMES=8 "$record" --quiet -- ./single "$1" 2>recorded.err
     sed -n 's/thread [0-9][0-9]*/thread N/; s/threads \([0-9]*, \)*[0-9]* and [0-9]*/threads N and M/; s/which [0-9]*/which N/; /^single locks: /p' recorded.err >below
     echo "single locks: $2" | diff - below
     tell alarms "of $1" $?
@@ -27,7 +27,7 @@ reused() {
 # `witness grade`. It counts all the same.
 graded() {
     printf '#!/bin/sh\n[ "$1" != grade ] || { %s; exit; }\nexec "%s" "$@"\n' "$2" "$WITNESS" >grader && chmod +x grader
-    RECORD_FRAMES=8 WITNESS=$work/grader "$record" --error-exitcode 9 --depth 1 -- ./single locks 2>recorded.err
+    RECORDER_DEPTH=1 RECORD_FRAMES=8 WITNESS=$work/grader "$record" --error-exitcode 9 -- ./single locks 2>recorded.err
     status=$?
     sed -n '/^single locks: /p' recorded.err >below
     echo "single locks: not known, $3" | diff - below && [ $status -eq 9 ]
@@ -36,7 +36,7 @@ graded() {
 
 # unbuilt WHAT WANTED: the same where the program would only be tried, in the folder `top`.
 unbuilt() {
-    PATH=$work/top/bin:$PATH RECORD_FRAMES=8 WITNESS=$work/top/witness "$record" --depth 1 -- ./single locks 2>recorded.err
+    PATH=$work/top/bin:$PATH RECORD_FRAMES=8 WITNESS=$work/top/witness RECORDER_DEPTH=1 "$record" -- ./single locks 2>recorded.err
     sed -n 's/threads [0-9]* and [0-9]*/threads N and M/; /^single locks: /p' recorded.err >below
     grep -q "isn't built: a trial of it answers" recorded.err && echo "single locks: $2" | diff - below
     tell alarms "$1" $?
@@ -44,7 +44,7 @@ unbuilt() {
 
 # counts STATUS HOW WORDS: the status of `single HOW` with --alarms WORDS.
 counts() {
-    "$record" --error-exitcode 9 --depth 1 ${3:+--alarms "$3"} -- ./single "$2" 2>recorded.err
+    RECORDER_DEPTH=1 "$record" --error-exitcode 9 ${3:+--alarms "$3"} -- ./single "$2" 2>recorded.err
     [ $? -eq "$1" ]
     tell alarms "the status of $2${3:+ with --alarms $3}" $?
 }
@@ -135,7 +135,7 @@ if wanted alarms; then
     done
     # The duplicate is told when the second order isn't known yet.
     rm -f held-open && mkfifo held-open
-    RECORD_FRAMES=8 "$record" --depth 1 -- ./single asked 2>recorded.err <held-open &
+    RECORDER_DEPTH=1 RECORD_FRAMES=8 "$record" -- ./single asked 2>recorded.err <held-open &
     exec 8>held-open
     within grep -q '^single locks: one order: none of these locks ' recorded.err
     before=$?
@@ -176,8 +176,8 @@ if wanted misuse && has_libdw misuse; then
     grep -q '^==[0-9]*== record: misuse: a lock was made anew while it was held: "arena" @ misuse.c:119$' recorded.err &&
         [ "$(tail -n 1 recorded.err)" = "record: nothing to report but 1 error" ]
     tell misuse "a lock that the child has taken, and makes anew" $?
-    "$record" --error-exitcode 9 --errors no -- ./misuse ends frees 2>recorded.err && ! grep -q 'held a lock' recorded.err
-    tell misuse "--errors no" $?
+    "$record" --error-exitcode 9 --alarms no-errors -- ./misuse ends frees 2>recorded.err && ! grep -q 'held a lock' recorded.err
+    tell misuse "--alarms no-errors" $?
 fi
 
 # An array of more than 16 elements is one type. Without debug information each of 16 locks of a variable has its own type, and

@@ -15,7 +15,7 @@ if wanted columns && has_libdw columns; then
                 echo "\"oneline.cc:34:$one\" \"oneline.cc:34:$other\""
             done
         done >list
-        "$record" --depth 1 --ignore list -- ./oneline 2>recorded.err
+        RECORDER_DEPTH=1 "$record" --ignore list -- ./oneline 2>recorded.err
         grep -q '^record: 1 report, ' recorded.err && ! grep -q 'main(p)' recorded.err
         tell columns "their names by lines and columns ($compiler)" $?
     done

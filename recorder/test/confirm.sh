@@ -86,7 +86,7 @@ if wanted unconfirmed; then
     words=
 fi
 
-# How often a steered run was made, by the file that --before writes.
+# How often the program was run, by the file to which it writes a line each time.
 runs_made() {
     wc -l <before 2>/dev/null || echo 0
 }
@@ -115,7 +115,7 @@ END
 
 # far_from_json: what an earlier run reported hangs.
 far_from_json() {
-    RECORD_FRAMES=8 "$record" --confirm-from far.json --error-exitcode 7 ./wrong far >recorded.out 2>recorded.err
+    RECORD_FRAMES=8 "$record" --confirm=from=far.json --error-exitcode 7 ./wrong far >recorded.out 2>recorded.err
     [ $? -eq 7 ] && grep -q "$hangs" recorded.err && grep -q '^record: 1 report, 1 confirmed$' recorded.err && [ ! -s recorded.out ]
 }
 
@@ -145,14 +145,16 @@ one_run_of_far() {
 
 # confirms_from FILE WORDS..: a report that was written there hangs.
 confirms_from() {
-    RECORD_FRAMES=8 "$record" --confirm-from "$@" >recorded.out 2>recorded.err
+    from=$1
+    shift
+    RECORD_FRAMES=8 "$record" --confirm=from="$from" "$@" >recorded.out 2>recorded.err
     grep -q "$hangs" recorded.err
 }
 
-# reads_anew WORDS..: the program reads its model from standard input in each run, and hangs in a steered one alone.
+# reads_anew: the program reads its model from standard input in each run, and hangs in a steered one alone.
 reads_anew() {
     # shellcheck disable=SC2016 # the shell that runs it has these
-    RECORD_FRAMES=8 "$record" --on-deadlock kill --confirm "$@" -- sh -c 'read model; ./wrong $model' <model >recorded.out 2>recorded.err
+    RECORD_FRAMES=8 "$record" --on-deadlock kill --confirm=time=60 -- sh -c 'echo run >>before; read model; exec ./wrong $model' <model >recorded.out 2>recorded.err
     grep -q "$hangs" recorded.err && [ "$(cat recorded.out)" = ended ]
 }
 
@@ -160,7 +162,7 @@ reads_anew() {
 # sleeps for as long.
 ends_what_waits() {
     long=$((100000 + $$))
-    echo accounts | RECORD_FRAMES=8 "$record" --on-deadlock kill --confirm --confirm-time 3 -- \
+    echo accounts | RECORD_FRAMES=8 "$record" --on-deadlock kill --confirm=time=3 -- \
         sh -c "read model || sleep $long; ./wrong \$model" >recorded.out 2>recorded.err
     grep -q '; its standard input is /dev/null$' recorded.err && grep -q 'was never reached; [1-3] of the runs took too long, and w[a-z]* ended$' recorded.err &&
         ! pgrep -f "^sleep $long\$" >left.out
@@ -174,11 +176,11 @@ if wanted steered; then
     at_last far_from_json
     tell steered "a report of an earlier run" $?
     cp wrong wrong.before && "${CC:-cc}" -g -O2 -pthread -o wrong wrong.c
-    RECORD_FRAMES=8 "$record" --confirm-from far.json ./wrong far >recorded.out 2>recorded.err
+    RECORD_FRAMES=8 "$record" --confirm=from=far.json ./wrong far >recorded.out 2>recorded.err
     [ $? -eq 2 ] && grep -q "far.json: .*/wrong isn't the one that was recorded: record it anew$" recorded.err && cp wrong.before wrong
     tell steered "a report of another build is refused" $?
     echo '{"format": "other"}' >other.json
-    RECORD_FRAMES=8 "$record" --confirm-from other.json ./wrong far 2>recorded.err
+    RECORD_FRAMES=8 "$record" --confirm=from=other.json ./wrong far 2>recorded.err
     [ $? -eq 2 ] && grep -q "^record: other.json isn't a file that record --json has written$" recorded.err
     tell steered "a file that isn't one of findings is refused" $?
 
@@ -205,13 +207,11 @@ if wanted steered; then
     tell steered "and those of an earlier run" $? || cat recorded.err
 
     echo accounts >model
-    at_last reads_anew && grep -q 'is ended where it hangs$' recorded.err
-    tell steered "standard input from a file is read anew" $? || cat recorded.err recorded.out
     rm -f before
-    at_last reads_anew --confirm-time 60 --before 'echo run >>before' && [ "$(runs_made)" -ge 1 ]
-    tell steered "--before runs before each" $? || cat recorded.err
+    at_last reads_anew && grep -q 'is ended where it hangs$' recorded.err && [ "$(runs_made)" -ge 2 ]
+    tell steered "standard input from a file is read anew, and a shell sets things right before each run" $? || cat recorded.err recorded.out
     at_last ends_what_waits
-    tell steered "--confirm-time ends a run, and what it has begun" $?
+    tell steered "--confirm=time=3 ends a run, and what it has begun" $?
 
     # shellcheck disable=SC2016 # the shell that runs it has these
     at_last confirms -- sh -c '[ -z "${RECORDER_PLAN-}" ] || setsid sleep 7343 & ./wrong accounts' && ! pgrep -f '^sleep 7343$' >left.out
@@ -220,11 +220,11 @@ if wanted steered; then
     noisy=1
     for try in 1 2 3 4 5; do
         [ $noisy -eq 0 ] && break
-        RECORD_FRAMES=8 timeout 60 "$record" --noise --on-deadlock exit=9 ./wrong accounts >recorded.out 2>recorded.err
+        RECORD_FRAMES=8 timeout 60 "$record" --confirm=noise --on-deadlock exit=9 ./wrong accounts >recorded.out 2>recorded.err
         [ $? -eq 9 ] && grep -q '^record: wrong (process [0-9]*) is ended: its threads wait for one another$' recorded.err && noisy=0
     done
-    tell steered "--noise, by which a program hangs" $noisy
-    for words in --confirm=0 --confirm=many '--confirm-time 0' --noise=0 '--before x' '--alarms confirmed' '--confirm --frames 1' '--confirm --show 1'; do
+    tell steered "--confirm=noise, by which a program hangs" $noisy
+    for words in --confirm=0 --confirm=many --confirm=time=0 --confirm=noise=0 --confirm=3,noise=often '--alarms confirmed' '--confirm --brief' '--confirm --show 1'; do
         # shellcheck disable=SC2086 # these are words
         RECORD_FRAMES=8 "$record" $words ./wrong far >recorded.out 2>recorded.err
         [ $? -eq 2 ] && [ ! -s recorded.out ]
@@ -262,7 +262,7 @@ fi
 if wanted toldlocks; then
     compile toldlocks
     for words in "" "--semaphores"; do
-        RECORD_FRAMES=8 timeout 100 "$record" $words --confirm=2 --confirm-time 20 -- ./toldlocks $words >recorded.out 2>recorded.err </dev/null
+        RECORD_FRAMES=8 timeout 100 "$record" $words --confirm=2,time=20 -- ./toldlocks $words >recorded.out 2>recorded.err </dev/null
         grep -q 'not confirmed in 2 runs: @ [^ ]*toldlocks.c:41 was reached [1-9]\|not confirmed: seemed to hang in run [12], but not each lock says who holds it' recorded.err &&
             ! grep -q 'was never reached' recorded.err
         tell toldlocks "a steered run comes to locks that aren't pthread's${words:+ ($words)}" $? || cat recorded.err

@@ -61,22 +61,22 @@ fi
 
 # Stacks: of requests, of what was held as far as they are known, and through functions that are
 # passed over. A helper that was called a thousand times from one place has no more.
-want=helper.held example helper "callers" --frames 8
-want=helper.held example helper "callers" --frames 3
-want=helper.held writing_all example helper "callers" --frames 8
+RECORD_FRAMES=8 want=helper.held example helper "callers"
+RECORD_FRAMES=3 want=helper.held example helper "callers, three frames"
+RECORD_FRAMES=8 want=helper.held writing_all example helper "callers"
 words=1000
-want=helper.callers example helper "the callers of requests" --frames 8
-want=helper.held example helper "the callers of what was held" --frames 8 --held-callers
+RECORD_FRAMES=8 want=helper.callers example helper "the callers of requests"
+RECORD_FRAMES= want=helper.held example helper "the callers of what was held" --verbose
 words=
 want=helper.skip example helper "functions that are passed over" --skip 'cache_*'
-example helper "no callers" --frames 1
+RECORD_FRAMES=8 example helper "no callers" --brief
 flags=-O2
-want=helper.held example helper "callers" --frames 8
-want=with example with "the callers through templates and lambdas" --frames 8 --skip with
+RECORD_FRAMES=8 want=helper.held example helper "callers"
+RECORD_FRAMES=8 want=with example with "the callers through templates and lambdas" --skip with
 flags=
 if wanted helper; then
     compile helper
-    "$record" --frames 2 -o kept -- ./helper 2>recorded.err
+    RECORD_FRAMES=2 "$record" -o kept -- ./helper 2>recorded.err
     "$WITNESS" replay <kept | diff - "$here/helper.first" && ! grep -q 'main' recorded.err && grep -q audit recorded.err
     tell helper "two frames, and a trace with its places" $?
 fi
@@ -86,7 +86,7 @@ if wanted writers; then
     compile writers
     for requests in new all; do
         record=$(recorder_of $requests)
-        "$record" --frames 8 -- ./writers >recorded.out 2>recorded.err
+        RECORD_FRAMES=8 "$record" -- ./writers >recorded.out 2>recorded.err
         for name in reader writer other; do
             number=$(sed -n "s/^$name //p" recorded.out)
             echo "s/, thread $number\\>/, thread $(echo $name | tr a-z A-Z)/"
@@ -96,7 +96,7 @@ if wanted writers; then
         tell writers "the functions and threads of a report's places ($requests requests)" $?
     done
     record=$recorder/record
-    "$record" --frames 1 -- ./writers >recorded.out 2>recorded.err
+    "$record" --brief -- ./writers >recorded.out 2>recorded.err
     sed '/^callers:/,/^  collect/d; /^single/d' "$here/writers.want" | diff - recorded.err
     tell writers "none with one frame" $?
 fi
@@ -227,7 +227,7 @@ fi
 if wanted renamed; then
     sed 's/^int main(void)$/int main(int count, char **word)/; s/^    pthread_t .*;$/&\n    for (char *at = word[count - 1]; *at; at++)\n        *at = 110;/' \
         "$here/reversal.c" >renamed.c && cc -g -pthread -o renamed renamed.c && grep -q 'char \*at' renamed.c &&
-        "$record" --frames 8 -- ./renamed 2>recorded.err
+        RECORD_FRAMES=8 "$record" -- ./renamed 2>recorded.err
     grep -q '^ 1st "journal", thread [0-9]* (made by main' recorded.err
     tell renamed "its threads have no name of their own" $?
 fi
@@ -267,7 +267,7 @@ int main(int count, char **word) { return count > 1 && dlclose(dlopen(word[1], R
 END
     cc -g -shared -fPIC -pthread -o library.so library.c && cc -o closes closes.c && cc -o needs closes.c -Wl,--no-as-needed ./library.so
     for words in ./needs "./closes ./library.so"; do
-        "$record" --frames 8 -o kept -- $words 2>recorded.err
+        RECORD_FRAMES=8 "$record" -o kept -- $words 2>recorded.err
         ! grep -q 'unwind tables' recorded.err && [ "$(grep -c '^check' kept)" -ge 4 ]
         tell blind "where a process begins, and an object ends ($words)" $?
     done
@@ -285,7 +285,7 @@ if wanted small; then
     tell small "a handler on a small stack" $?
     "$(recorder_of all)" -- ./small $((size + 512)) 2>&1 | diff "$here/small.want" -
     tell small "a handler on a small stack (all requests)" $?
-    "$record" --frames 8 -- ./small $((size + 512)) 2>recorded.err
+    RECORD_FRAMES=8 "$record" -- ./small $((size + 512)) 2>recorded.err
     grep -q '^  handle (small.c:18)$' recorded.err && grep -q '^  main (small.c:32)$' recorded.err
     tell small "its callers" $?
 fi

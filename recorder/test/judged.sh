@@ -1,11 +1,16 @@
-# Tests for which the program has to know `migrate` and the line `profile all`: read by `run`, whose
-# functions it uses.
+# Tests of whether the lines of a trace stand in an order that locks can have had: `witness migrate` puts the real steps of the
+# locks between them. Read by `run`, whose functions it uses.
 
-# is_accepted: each trace of the recording was judged, and is one of locks that were free when they
-# were taken.
-is_accepted() {
-    grep -q ' judged: each lock was free' recorded.err &&
-        ! grep -q 'judged: line\|judged: .* ended' recorded.err
+# is_of_locks RECORD WORDS..: in each process's trace of a run of these words each lock is free when it is taken.
+is_of_locks() {
+    rm -f kept kept.*
+    recorder_used=$1
+    shift
+    recorded_by "$recorder_used" -o kept -- "$@"
+    [ -s kept ] || return 1
+    for trace in kept kept.*; do
+        [ ! -e "$trace" ] || "$WITNESS" migrate <"$trace" >moved 2>&1 || { tail -n 1 moved && return 1; }
+    done
 }
 
 if wanted judged; then
@@ -16,8 +21,7 @@ if wanted judged; then
         "pairs 4 2 1000" philosophers recursive reused reversal rwlock signals started threads \
         tryfirst trysecond trythen varying varyings with; do
         compile ${line%% *}
-        recorded_by "$all" --judge -- timeout -s KILL "$(limit_of $line)" ./$line
-        is_accepted
+        is_of_locks "$all" timeout -s KILL "$(limit_of $line)" ./$line
         tell judged "$line" $?
     done
     # Programs of several sources, with libraries, that crash, or that go on.
@@ -25,20 +29,17 @@ if wanted judged; then
     compile closed
     for line in "atfork 12" "clash both" closed "closed back" "crash 2" crew slow; do
         [ -x "${line%% *}" ] || compile ${line%% *}
-        recorded_by "$all" --judge -- timeout -s KILL "$(limit_of $line)" ./$line
-        is_accepted
+        is_of_locks "$all" timeout -s KILL "$(limit_of $line)" ./$line
         tell judged "$line" $?
     done
     # A mutex whose holder has ended is still that one's in the trace, and another thread gets it.
     compile odd
-    recorded_by "$all" --judge -- ./odd
-    said 0 'odd: judged: line [0-9]*: F35 RawNotFree: .* gets "robust(mutex)<main()", .* @ odd.c:46$'
+    ! is_of_locks "$all" ./odd >refused && grep -q '^line [0-9]*: F35 RawNotFree$' refused &&
+        sed -n "$(sed -n 's/^line \([0-9]*\):.*/\1/p' refused)p" kept | grep -q ' odd.c:46$'
     tell judged "odd, whose robust mutex is got when its holder has ended, is refused there" $?
-    drop_kept
     for program in between reversal recursive; do
         compile $program
-        recorded_by "$all" --judge -o kept -- ./$program
-        is_accepted && [ "$(sed -n 2p kept)" = "profile all" ]
+        is_of_locks "$all" ./$program && [ "$(sed -n 2p kept)" = "profile all" ]
         tell judged "$program, whose trace compares all held locks" $?
     done
     "$record" -- true 2>/dev/null
@@ -55,10 +56,7 @@ if wanted judged; then
     compile contend -O1
     caught=1
     plant overlapping && for run in $(seq 60); do
-        recorded_by overlapping/record --judge -- ./contend
-        drop_kept
-        grep -q 'judged: line [0-9]*: F35 RawNotFree: seat [0-9]* gets ' recorded.err &&
-            caught=0 && break
+        ! is_of_locks overlapping/record ./contend >refused && grep -q '^line [0-9]*: F35 RawNotFree$' refused && caught=0 && break
     done
     tell judged "a recorder that writes unlock too late is told of" $caught
 fi

@@ -9,6 +9,17 @@ learnt() {
     [ "$status" -eq "$wanted_status" ] || { echo "status $status in place of $wanted_status:" && cat reports; return 1; }
 }
 
+# banked STATUS WAY [OPTIONS OF ORDERS..] FILE OPTIONS AND COMMAND..: `orders WAY` of the example, whose tests are linked from the same
+# sources, ends with that status. What it told is in `reports`.
+banked() {
+    wanted_status=$1
+    way=$2
+    shift 2
+    "$orders" "$way" --program-name bank "$@" >recorded.out 2>reports
+    status=$?
+    [ "$status" -eq "$wanted_status" ] || { echo "status $status in place of $wanted_status:" && cat reports; return 1; }
+}
+
 # lines: those of `reports` that are for the file of orders.
 lines() {
     grep '^[+!] ' reports
@@ -27,24 +38,23 @@ if wanted learns; then
     second="mtx \"bank:journal\" > mtx \"bank:ledger\"${tab}# report (bank.c) while report (bank.c), test_report"
     third="mtx \"bank:ledger\" > mtx \"bank:accounts\"${tab}# rebuild (bank.c) while rebuild (bank.c), test_rebuild"
     from_example transfer && from_example report && from_example rebuild
-    as="--program-name bank"
-    learnt 0 --learn ORDERS $as -- ./test_transfer && echo "$first" | diff - ORDERS &&
+    banked 0 learn ORDERS -- ./test_transfer && echo "$first" | diff - ORDERS &&
         printf '%s\n' "runs 1" "1 1 ${first%%$tab*}" | diff - ORDERS.runs &&
         [ "$(echo ORDERS*)" = "ORDERS ORDERS.lock ORDERS.runs" ] &&
         printf '%s\n' "record: ORDERS: 1 new order learnt, 0 against others" "$clean" "record: nothing to report" | diff - reports
     tell learns "a first run" $?
     cp ORDERS before
-    learnt 0 --known ORDERS $as -- ./test_report && cmp ORDERS before &&
+    banked 0 known ORDERS -- ./test_report && cmp ORDERS before &&
         printf '%s\n' "+ $second" "record: ORDERS: 1 new order, 0 against others" "$clean" "record: nothing to report" | diff - reports
     tell learns "a new order is told, and the file stays" $?
     { cat ORDERS && sed -n 's/^+ //p' reports; } | LC_ALL=C sort -u -t "$tab" -k 1,1 >committed
-    learnt 7 --known ORDERS --new-exitcode 7 $as -- ./test_report &&
-        learnt 3 --known ORDERS --new-exitcode 7 $as -- sh -c './test_report; exit 3'
+    banked 7 known --new-exitcode 7 ORDERS -- ./test_report &&
+        banked 3 known --new-exitcode 7 ORDERS -- sh -c './test_report; exit 3'
     tell learns "a status for new orders" $?
-    learnt 0 --learn ORDERS $as -- ./test_report && printf '%s\n' "$first" "$second" | diff - ORDERS &&
+    banked 0 learn ORDERS -- ./test_report && printf '%s\n' "$first" "$second" | diff - ORDERS &&
         cmp ORDERS committed
     tell learns "a second run, and the line that was told is what is learnt" $?
-    learnt 0 --known ORDERS --new-exitcode 7 $as -- ./test_report && ! lines
+    banked 0 known --new-exitcode 7 ORDERS -- ./test_report && ! lines
     tell learns "nothing new" $?
     cp ORDERS before && cp ORDERS.runs before.runs
     cat >wanted <<'END'
@@ -57,34 +67,34 @@ established order:
 END
     printf '%s\n' "! $third" "record: ORDERS: 0 new orders, 1 against others" "record: 1 report, 0 circles, 1 process" >>wanted
     for frames in 1 8; do
-        learnt 1 --known ORDERS --frames "$frames" $as -- ./test_rebuild && diff wanted reports && cmp ORDERS before &&
+        RECORD_FRAMES=$frames banked 1 known ORDERS -- ./test_rebuild && diff wanted reports && cmp ORDERS before &&
             cmp ORDERS.runs before.runs
         tell learns "an order against those of other runs ($frames frames)" $?
     done
-    learnt 1 --known ORDERS $as --html run.html --json run.json --sarif run.sarif -- ./test_rebuild &&
+    banked 1 known ORDERS --html run.html --json run.json --sarif run.sarif -- ./test_rebuild &&
         diff wanted reports &&
         grep -q "<mark class='row' data-line='35'>    pthread_mutex_lock(&amp;accounts);" run.html &&
         grep -q '"site": "report (bank.c), in test_report"' run.json &&
         grep -q '"startLine": 35' run.sarif && { ! command -v python3 >/dev/null || whole run; }
     tell learns "in a page, JSON and SARIF" $?
-    learnt 9 --known ORDERS --error-exitcode 9 $as -- ./test_rebuild
+    banked 9 known ORDERS --error-exitcode 9 -- ./test_rebuild
     tell learns "its status by --error-exitcode" $?
-    learnt 1 --learn ORDERS $as -- ./test_rebuild && sed 's/ learnt//' reports | diff wanted - && cmp ORDERS before &&
+    banked 1 learn ORDERS -- ./test_rebuild && sed 's/ learnt//' reports | diff wanted - && cmp ORDERS before &&
         sed 1q ORDERS.runs | grep -qx 'runs 3'
     tell learns "it isn't learnt" $?
-    learnt 1 --known ORDERS --gen-suppressions $as -- ./test_rebuild && grep '^"' reports >peace &&
+    banked 1 known ORDERS --gen-suppressions -- ./test_rebuild && grep '^"' reports >peace &&
         echo '"bank:ledger" "bank:accounts"' | diff - peace &&
-        learnt 0 --known ORDERS --ignore peace $as -- ./test_rebuild && ! grep -q '^lock order' reports
+        banked 0 known ORDERS --ignore peace -- ./test_rebuild && ! grep -q '^lock order' reports
     tell learns "the user allows it" $?
 
     # Several processes of one run; a run's name; the file as two branches leave it.
     rm -f ORDERS*
-    learnt 1 --learn ORDERS $as --run-name nightly -- sh -c './test_transfer; ./test_report; ./test_rebuild' &&
+    banked 1 learn --run-name nightly ORDERS -- sh -c './test_transfer; ./test_report; ./test_rebuild' &&
         printf '%s\n' "$first" "$second" | sed 's/, test_.*/, nightly/' | diff - ORDERS &&
         lines | sed 's/, nightly$/, test_rebuild/' | grep -qxF "! $third"
     tell learns "a circle through three processes" $?
     printf '%s\n' "$first" "$second" "$third" >ORDERS && rm -f ORDERS.runs
-    learnt 0 --known ORDERS $as -- ./test_transfer &&
+    banked 0 known ORDERS -- ./test_transfer &&
         grep -qx 'record: ORDERS: 1 of its own orders are against others of its own: `orders judge ORDERS` tells which' reports
     tell learns "a file that contradicts itself" $?
 
@@ -105,7 +115,7 @@ END
 
     # Without debug information, and without a build-id.
     rm -f ORDERS*
-    from_example transfer && strip -g test_transfer && learnt 0 --learn ORDERS $as -- ./test_transfer &&
+    from_example transfer && strip -g test_transfer && banked 0 learn ORDERS -- ./test_transfer &&
         grep -q '^mtx "bank:accounts' ORDERS
     tell learns "variables have their names without debug information" $?
     rm -f ORDERS* varying.options
@@ -150,56 +160,62 @@ END
     mkdir -p folder && learnt 2 --learn folder -- sh -c 'echo ran' && [ ! -s recorded.out ] &&
         echo "record: folder can't be read: Is a directory" | diff - reports
     tell learns "a folder in the file's place" $?
-    for line in "--learn ORDERS --known ORDERS true" "--new-exitcode 0 true" "--run-name a,b true" "--program-name a\"b true" "--learn"; do
+    for line in "--learn ORDERS --known ORDERS true" "--learn"; do
         learnt 2 $line && [ "$(wc -l <reports)" -eq 1 ]
         tell learns "record $line" $?
     done
+    for line in "known --new-exitcode 0 ORDERS true" "learn --new-exitcode 5 ORDERS true" "learn --run-name a,b ORDERS true" \
+        "known --program-name a\"b ORDERS true" "learn --run-name" "learn" "known ORDERS" "known ORDERS --learn ORDERS true"; do
+        "$orders" $line >recorded.out 2>reports
+        [ $? -eq 2 ] && [ "$(wc -l <reports)" -eq 1 ] && [ ! -s recorded.out ]
+        tell learns "orders $line" $?
+    done
     from_example transfer
-    learnt 1 --learn ORDERS $as -- sh -c './test_transfer; echo broken >ORDERS' &&
+    banked 1 learn ORDERS -- sh -c './test_transfer; echo broken >ORDERS' &&
         grep -qx "record: ORDERS: line 1: $form: the run isn't judged with other runs" reports &&
         [ "$(cat ORDERS)" = broken ]
     tell learns "a file that was broken meanwhile" $?
-    rm -f ORDERS* && learnt 1 --learn ORDERS $as -- sh -c './test_transfer; rm -f ORDERS*; mkdir ORDERS.lock' &&
+    rm -f ORDERS* && banked 1 learn ORDERS -- sh -c './test_transfer; rm -f ORDERS*; mkdir ORDERS.lock' &&
         grep -qx "record: ORDERS.lock can't be written: Is a directory: nothing is learnt" reports && [ ! -e ORDERS ]
     tell learns "a lock that can't be had" $?
     rm -rf ORDERS*
     # The file is larger than what may be written by then.
     awk 'BEGIN { for (i = 100000; i < 160000; i++) print "mtx \"a_type_with_a_long_name_" i "\" > mtx \"b\"" }' >ORDERS && cp ORDERS before
-    (ulimit -f 4096 && learnt 1 --learn ORDERS $as -- ./test_transfer) && cmp ORDERS before &&
+    (ulimit -f 4096 && banked 1 learn ORDERS -- ./test_transfer) && cmp ORDERS before &&
         grep -qx "record: ORDERS can't be written: File too large: nothing is learnt" reports &&
         [ "$(echo ORDERS*)" = "ORDERS ORDERS.lock" ]
     tell learns "a disk that has no room" $?
     rm -f ORDERS*
     # Each run brings what the others haven't.
     for number in 1 2 3 4 5 6; do
-        "$record" --learn ORDERS --program-name "bank$number" --run-name "run$number" -- ./test_transfer >/dev/null 2>"reports.$number" &
+        "$orders" learn --program-name "bank$number" --run-name "run$number" ORDERS -- ./test_transfer >/dev/null 2>"reports.$number" &
     done
     wait
     [ "$(wc -l <ORDERS)" -eq 6 ] && [ "$(head -n 1 ORDERS.runs)" = "runs 6" ] &&
         [ "$(echo ORDERS*)" = "ORDERS ORDERS.lock ORDERS.runs" ] &&
         LC_ALL=C sort -c ORDERS && cat reports.? | grep -c '1 new order learnt' | grep -qx 6
     tell learns "six runs at once" $?
-    python3 "$maker" clean ORDERS 2000 && rm -f ORDERS.runs && learnt 0 --known ORDERS $as -- ./test_transfer &&
+    python3 "$maker" clean ORDERS 2000 && rm -f ORDERS.runs && banked 0 known ORDERS -- ./test_transfer &&
         grep -qx "record: ORDERS: 1 new order, 0 against others" reports
     tell learns "with a file of 2,000 types" $?
 
     # What people copy: the third test fails, and what it would bring in isn't learnt.
-    mkdir -p copy && find "$example" -maxdepth 1 -type f -exec cp {} copy \; && RECORD=$record ORDERS_COMMAND=$orders copy/ci >told 2>complaints
+    mkdir -p copy && find "$example" -maxdepth 1 -type f -exec cp {} copy \; && ORDERS_COMMAND=$orders copy/ci >told 2>complaints
     [ $? -eq 1 ] && head -n 3 told >tests &&
         printf '%s\n' 'passed: transfer' 'passed: report' 'FAILED: rebuild' | diff - tests &&
         grep -qxF "! $third" complaints && cmp copy/ORDERS "$example/ORDERS"
     tell learns "the example" $?
-    RECORD=$record ORDERS_COMMAND=$orders copy/ci transfer report >told 2>&1
+    ORDERS_COMMAND=$orders copy/ci transfer report >told 2>&1
     tell learns "its first two tests" $?
     : >copy/ORDERS
     for test in transfer report rebuild; do
-        RECORD=$record ORDERS_COMMAND=$orders copy/ci "$test" >told 2>&1
+        ORDERS_COMMAND=$orders copy/ci "$test" >told 2>&1
         tell learns "its test $test, alone" $?
     done
-    LEARN=1 RECORD=$record ORDERS_COMMAND=$orders copy/ci transfer report >told 2>&1 && cmp copy/ORDERS "$example/ORDERS"
+    LEARN=1 ORDERS_COMMAND=$orders copy/ci transfer report >told 2>&1 && cmp copy/ORDERS "$example/ORDERS"
     tell learns "its file, learnt anew" $?
     printf '%s\n' "$first" "$second" "$third" >copy/ORDERS
-    RECORD=$record ORDERS_COMMAND=$orders copy/ci transfer >told 2>&1
+    ORDERS_COMMAND=$orders copy/ci transfer >told 2>&1
     [ $? -eq 1 ] && grep -q '^passed: transfer$' told && grep -q '^orders: 1 order against others' told
     tell learns "two halves of a circle that two branches have brought in" $?
     if command -v git >/dev/null 2>&1; then

@@ -188,7 +188,7 @@ fi
 not_seen() {
     what=$1
     shift
-    recorded_by "$record" --errors no -- "$@"
+    recorded_by "$record" --alarms no-errors -- "$@"
     last_is "record: nothing in what was recorded; not seen: $what (see record(1))"
     tell unseen "$what ($*)" $?
 }

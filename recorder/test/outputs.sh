@@ -60,7 +60,7 @@ recorded_to() {
     to=$1
     shift
     rm -f "$to".[hjs]*
-    recorded_by "$record" --frames 8 --html "$to.html" --json "$to.json" --sarif "$to.sarif" "$@"
+    RECORD_FRAMES=8 recorded_by "$record" --html "$to.html" --json "$to.json" --sarif "$to.sarif" "$@"
     [ -s "$to.html" ] && [ -s "$to.json" ] && [ -s "$to.sarif" ]
 }
 
@@ -101,7 +101,7 @@ test_runs() {
         grep -q "<p class='origin'>record $(sed -n 1p "$here/../../VERSION"), 20[-0-9]* [0-9:]* [A-Z]*: <code>./reversal</code></p>" run.html &&
         grep -q '<td><a href=.#report-1.>1</a></td><td>Lock order reversal</td>.*the same locks, several threads; apart</td><td>yes</td>' run.html
     tell outputs "its origin, its entry and its advice" $?
-    compile single && recorded_to run --depth 1 -- ./single twins && whole run &&
+    compile single && RECORDER_DEPTH=1 recorded_to run -- ./single twins && whole run &&
         is run.json reports.0.kind '"duplicate"' reports.0.counts true reports.0.single.elsewhere.# 1 \
             reports.0.single.elsewhere.0.file '"single.c"' reports.0.single.elsewhere.0.line 56 &&
         grep -q "<p class='single bad'>single locks: both orders, the same locks, .*; the other way @ single.c:56</p>" run.html
@@ -130,7 +130,7 @@ test_runs() {
         is run.sarif runs.0.results.0.ruleId '"lock-error"' runs.0.results.0.ruleIndex 4 runs.0.results.0.level '"warning"' \
             runs.0.results.0.locations.0.physicalLocation.region.startLine 21 &&
         grep -q '<section id=.errors.>' run.html && ! grep -q "<p class='good'>" run.html &&
-        recorded_to run --errors no -- ./misuse ends && is run.json reports.# 0
+        recorded_to run --alarms no-errors -- ./misuse ends && is run.json reports.# 0
     tell outputs "of an error in the use of a lock" $?
     recorded_to run -- sh -c './reversal; ./reversal; ./forking' && whole run &&
         is run.json reports.# 2 reports.0.processes.# 2 reports.0.program '"reversal"' processes.# 4 &&

@@ -17,7 +17,7 @@ streams_of() {
 # pairs_of FILES..: the pairs of types that they tell of.
 pairs_of() {
     for file in "$@"; do
-        "$record" --trace "$file" 2>/dev/null | python3 "$here/pairs.py"
+        "$trace_of" "$file" 2>/dev/null | python3 "$here/pairs.py"
     done | sort -u
 }
 
@@ -102,7 +102,7 @@ if wanted moved; then
     compile moved
     record_both ./moved try && both_agree && grep -q '^lock order reversal' full.reports
     tell moved "with a try both streams have the report" $?
-    record_both ./moved && [ "$("$record" --clean condensed.trace) $("$record" --clean full.trace)" = "clean clean" ]
+    record_both ./moved && [ "$("$WITNESS" clean <condensed.trace) $("$WITNESS" clean <full.trace)" = "clean clean" ]
     tell moved "without one both are clean" $?
     record_both ./moved reversal && for stream in condensed full; do
         "$WITNESS" replay <$stream.trace | head -n 3 >$stream.first

@@ -188,7 +188,7 @@ int main()
 }
 END
     for level in -O0 -O1 -O2 -O3; do
-        c++ -std=c++17 -g $level -pthread -o lambdas lambdas.cc && "$record" --frames 8 --gen-suppressions -- ./lambdas 2>recorded.err
+        c++ -std=c++17 -g $level -pthread -o lambdas lambdas.cc && RECORD_FRAMES=8 "$record" --gen-suppressions -- ./lambdas 2>recorded.err
         grep -q '^  .*operator() (lambdas.cc:1[12])$' recorded.err && ! grep -q '_M_run\|?::' recorded.err
         tell lambdas "a thread's lambda ($level)" $?
     done

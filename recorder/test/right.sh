@@ -4,7 +4,7 @@
 by_list() {
     word=$1
     shift
-    RECORD_FRAMES=8 "$record" --default-ignore trees.known "$@" -- ./trees $word 2>recorded.err
+    RECORD_FRAMES=8 "$record" --ignore trees.known "$@" -- ./trees $word 2>recorded.err
     tail -n 1 recorded.err
 }
 
@@ -31,10 +31,10 @@ if wanted right; then
         is_last "what isn't in the function is told ($way)" "1 report, 0 circles, 1 process" moves
         is_last "the same locks both ways are told ($way)" "1 report, 0 circles, 1 process" back
     done
-    RECORD_FRAMES=8 "$record" --no-default-ignore -- ./trees 2>&1 | tail -n 1 >last
+    RECORD_FRAMES=8 "$record" --ignore none -- ./trees 2>&1 | tail -n 1 >last
     echo "record: 1 report, 0 circles, 1 process" | diff - last
-    tell right "none by --no-default-ignore" $?
-    sed -n 's/^"/"/p' recorded.err >list && RECORD_FRAMES=8 "$record" --no-default-ignore --gen-suppressions -- ./trees own 2>&1 |
+    tell right "none by --ignore none" $?
+    sed -n 's/^"/"/p' recorded.err >list && RECORD_FRAMES=8 "$record" --ignore none --gen-suppressions -- ./trees own 2>&1 |
         sed -n 's/^"own"/"own"/p; s/^"other"/"other"/p' >list
     is_last "beside the user's own list" "nothing to report: list silences 1 report; 1 known of libtrees.so" own --ignore list
     by_list "" --json run.json >last && python3 - run.json <<'END'
@@ -44,14 +44,14 @@ sys.exit([(each["kind"], each["silenced"]) for each in reports] != [("duplicate"
 END
     tell right "in JSON it is silenced" $?
     printf '%s\n' 'libtrees.so "tree_new"' >trees.known
-    "$record" --default-ignore trees.known -- ./trees 2>recorded.err
+    "$record" --ignore trees.known -- ./trees 2>recorded.err
     [ $? -eq 2 ] && grep -q '^record: trees.known: line 1 isn.t OBJECT "FUNCTION" "FUNCTION" in "FUNCTION"' recorded.err
     tell right "a bad line of a list" $?
-    "$record" --default-ignore nowhere -- ./trees 2>recorded.err
+    "$record" --ignore nowhere -- ./trees 2>recorded.err
     [ $? -eq 2 ] && grep -q "nowhere can't be read" recorded.err
     tell right "a list that isn't there" $?
     bad=0
-    for list in "$recorder"/known/*.known; do "$record" --default-ignore "$list" -- true 2>recorded.err || bad=1; done
+    for list in "$recorder"/known/*.known; do "$record" --ignore "$list" -- true 2>recorded.err || bad=1; done
     [ $bad -eq 0 ] && [ -n "$list" ] && [ -z "$(awk '!/^#/ && NF && before !~ /^#/ { print FILENAME } { before = $0 }' "$recorder"/known/*.known)" ]
     tell right "the lists that come with record: each line below a reason" $?
 fi

@@ -5,7 +5,7 @@
 hangs() {
     what=$1 words=$2 found=$3
     shift 3
-    RECORD_FRAMES=8 "$record" --quiet --depth 1 --json told.json -- "$@" 2>recorded.err
+    RECORDER_DEPTH=1 RECORD_FRAMES=8 "$record" --quiet --json told.json -- "$@" 2>recorded.err
     sed -n 's/threads \([0-9]*, \)*[0-9]* and [0-9]*/threads N and M/; s/thread [0-9][0-9]*/thread N/g; /^hangs so: /p; /^no schedule: /p' \
         recorded.err >below
     printf '%s' "${words:+$words

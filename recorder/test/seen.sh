@@ -9,7 +9,7 @@ plugin() {
 is_unharmed() {
     timeout 20 "$@" >plain.out 2>&1
     plain=$?
-    timeout 120 "$record" --errors no -- "$@" >recorded.out 2>recorded.err
+    timeout 120 "$record" --alarms no-errors -- "$@" >recorded.out 2>recorded.err
     status=$?
     [ $status -eq $plain ] && cmp -s plain.out recorded.out && return
     echo "$plain by itself, $status in the recorder" && cat recorded.err
@@ -76,7 +76,7 @@ if wanted mapped; then
     sed 's/both(&FIRST, &SECOND)/both(\&LATER, \&FIRST)/; s/both(&SECOND, &FIRST)/both(\&FIRST, \&LATER)/; s/SECOND/LATER/' \
         "$here/plugin.c" >turned.c
     "${CC:-cc}" -g -DFIRST=two_a -DLATER=two_b -fPIC -shared -pthread -o two.so turned.c
-    recorded_by "$record" --frames 1 -- ./unloaded "$work/one.so" "$work/two.so"
+    RECORD_FRAMES=1 recorded_by "$record" -- ./unloaded "$work/one.so" "$work/two.so"
     said 0 "^$clean\$" && last_is 'record: nothing to report'
     tell mapped "a library that stands where another one was" $?
 fi
@@ -106,7 +106,7 @@ if wanted reread; then
         last_is 'record: nothing to report but 1 error' &&
         grep -q '^record: not clean: reread: a thread read a lock again that it read' recorded.err
     tell reread "a lock that prefers writers" $?
-    recorded_by "$record" --errors no --error-exitcode 7 -- ./reread writers
+    recorded_by "$record" --alarms no-errors --error-exitcode 7 -- ./reread writers
     said 0 '^record: not clean: ' && ! grep -q '^record: clean' recorded.err
     tell reread "where errors aren't told" $?
     for kind in readers default; do

@@ -42,13 +42,13 @@ if wanted separate && has_libdw separate; then
     done
 fi
 
-# A program without debug information is told by functions. By --frames 1 how far in a function a place is isn't known.
+# A program without debug information is told by functions. By RECORD_FRAMES=1 how far in a function a place is isn't known.
 if wanted nodebug; then
     for compiler in gcc clang; do
         command -v $compiler >/dev/null || continue
         for level in -O0 -O2; do
             cp "$here/nodebug.c" . && $compiler $level -fno-optimize-sibling-calls -pthread -o nodebug nodebug.c
-            "$record" --frames 8 --gen-suppressions -- ./nodebug 2>recorded.err
+            RECORD_FRAMES=8 "$record" --gen-suppressions -- ./nodebug 2>recorded.err
             sed 's/+0x[0-9a-f]*/+0xN/g; s/threads* [0-9][0-9]*/thread N/g' recorded.err | grep -v '^  main\|^  renders' >reports
             grep -v '^  main\|^  renders' "$here/nodebug.want" | diff - reports
             tell nodebug "a report by functions ($compiler $level)" $?
@@ -86,7 +86,7 @@ int main(void)
     return 0;
 }
 END
-    "${CC:-cc}" -O0 -pthread -o twice twice.c && "$record" --frames 8 -- ./twice 2>recorded.err
+    "${CC:-cc}" -O0 -pthread -o twice twice.c && RECORD_FRAMES=8 "$record" -- ./twice 2>recorded.err
     grep -q '^ 1st "made+0x[0-9a-f]*<main+0x[0-9a-f]*" (sleep mutex) in main+0x[0-9a-f]* (twice)$' recorded.err
     tell nodebug "types that functions don't part have their offsets" $?
     cat >keeping.c <<'END'
@@ -112,7 +112,7 @@ int main(void)
     return pthread_join(thread, NULL);
 }
 END
-    "${CC:-cc}" -O0 -pthread -o keeping keeping.c && "$record" --frames 8 --json run.json -- ./keeping 2>recorded.err
+    "${CC:-cc}" -O0 -pthread -o keeping keeping.c && RECORD_FRAMES=8 "$record" --json run.json -- ./keeping 2>recorded.err
     grep -q '^record: keeping: a thread ended that held a lock, taken here: "made" lock 3 in keeps+0x[0-9a-f]* (keeping)$' recorded.err &&
         python3 -c 'import json; at = json.load(open("run.json"))["reports"][0]; assert at["error"]["lock"] == "made/3", at'
     tell nodebug "an error of one lock among others of its type" $?
@@ -124,7 +124,7 @@ if wanted stripped; then
         command -v $compiler >/dev/null || continue
         for level in -O0 -O2; do
             cp "$here/stripped.c" . && $compiler -g $level -rdynamic -pthread -o stripped stripped.c && strip stripped
-            "$record" --frames 8 --gen-suppressions -- ./stripped 2>recorded.err
+            RECORD_FRAMES=8 "$record" --gen-suppressions -- ./stripped 2>recorded.err
             grep -q '^lock order reversal' recorded.err && grep -q '(made in stripped+0x[0-9a-f]*)' recorded.err &&
                 grep -q '^  main+0x[0-9a-f]* (stripped)$' recorded.err && grep -q '^ 2nd ".*" (sleep mutex) in stripped+0x[0-9a-f]*$' recorded.err &&
                 ! grep -q 'told\|_start\|_init\|:0' recorded.err

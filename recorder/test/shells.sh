@@ -13,22 +13,22 @@ coloured() {
 
 if wanted shells; then
     compile reversal
-    recorded_by "$record" --frames 4 --color -- ./reversal && coloured recorded.err
+    RECORD_FRAMES=4 recorded_by "$record" --color -- ./reversal && coloured recorded.err
     tell shells "headings in colour" $?
-    recorded_by "$record" --frames 4 --color=always --log-file log -- ./reversal && coloured log
+    RECORD_FRAMES=4 recorded_by "$record" --color=always --log-file log -- ./reversal && coloured log
     tell shells "and in a log" $?
     for words in '' --color=auto --color=never; do
-        recorded_by "$record" --frames 4 $words -- ./reversal && ! grep -q "$(printf '\033')" recorded.err && said 0 '^lock order reversal:$'
+        RECORD_FRAMES=4 recorded_by "$record" $words -- ./reversal && ! grep -q "$(printf '\033')" recorded.err && said 0 '^lock order reversal:$'
         tell shells "no colour where nobody looks on ($words)" $?
     done
     recorded_by "$record" --color=often -- ./reversal
     said 2 'color is auto, always or never, not often'
     tell shells "no other word" $?
     if command -v script >/dev/null 2>&1; then
-        typed env -u NO_COLOR TERM=xterm "$record" --frames 4 -- ./reversal && coloured typed
+        typed env -u NO_COLOR TERM=xterm RECORD_FRAMES=4 "$record" -- ./reversal && coloured typed
         tell shells "at a terminal" $?
         for setting in 'NO_COLOR=1 TERM=xterm' 'TERM=dumb'; do
-            typed env -u NO_COLOR $setting "$record" --frames 4 -- ./reversal && ! grep -q "$(printf '\033')" typed &&
+            typed env -u NO_COLOR $setting RECORD_FRAMES=4 "$record" -- ./reversal && ! grep -q "$(printf '\033')" typed &&
                 tr -d '\r' <typed | grep -qx 'lock order reversal:'
             tell shells "at a terminal with $setting" $?
         done
@@ -46,7 +46,7 @@ completed() {
 if wanted shells; then
     "$record" --help | sed -n 's/^  \(-[-a-z]*\).*/\1/p' | sort >options
     for shell in bash zsh fish; do
-        "$record" --completion $shell >completion.$shell
+        "$recorder/../tools/completion" $shell >completion.$shell
         case $shell in
         bash) sed -n 's/^\(-[^ ]*\) .*/\1/p' ;;
         zsh) sed -n "s/^    '\(-[-a-z]*\)\[.*/\1/p" ;;
@@ -54,18 +54,18 @@ if wanted shells; then
         esac <completion.$shell | grep -vx -e -h | sort | diff options -
         tell shells "$shell completes each option that the help names" $?
     done
-    recorded_by "$record" --completion csh
+    recorded_by "$recorder/../tools/completion" csh
     said 2 'completion is bash, zsh or fish, not csh'
     tell shells "another shell" $?
     mkdir -p files && : >files/one && : >files/other
     if command -v bash >/dev/null; then
-        [ "$(completed record --on-)" = "--on-deadlock --on-report " ] && [ "$(completed record --errors '')" = "no yes " ] &&
-            [ "$(completed record --ignore files/o)" = "files/one files/other " ] && [ "$(completed record --depth 2 --noi)" = "--noise " ] &&
+        [ "$(completed record --on-)" = "--on-deadlock --on-report " ] && [ "$(completed record --on-deadlock '')" = "exit= kill tell " ] &&
+            [ "$(completed record --ignore files/o)" = "files/one files/other " ] && [ "$(completed record --skip cache --sem)" = "--semaphores " ] &&
             [ "$(completed record --quiet -- ls files/ot)" = "files/other " ]
         tell shells "bash completes options, their words, files, and what the program takes" $?
     fi
     if command -v fish >/dev/null; then
-        for line in '--on-:--on-deadlock --on-report' '--errors :no yes' '--depth 2 --noi:--noise' '--ignore files/on:files/one' 'ls --colo:--color'; do
+        for line in '--on-:--on-deadlock --on-report' '--on-deadlock :exit= kill tell' '--skip cache --sem:--semaphores' '--ignore files/on:files/one' 'ls --colo:--color'; do
             timeout 60 fish --no-config -c "source ./completion.fish; complete -C 'record ${line%%:*}'" | cut -f 1 | sort | tr '\n' ' ' >offered
             [ "$(cat offered)" = "${line#*:} " ]
             tell shells "fish completes ${line%%:*}" $?
@@ -82,10 +82,10 @@ if wanted shells; then
     fi
 fi
 
-# What editors read, as docs/RECORDER.md has it.
+# What editors read, as docs/recording.md has it.
 if wanted shells; then
-    document=$here/../../docs/RECORDER.md
-    recorded_by "$record" --frames 4 -- ./reversal
+    document=$here/../../docs/recording.md
+    RECORD_FRAMES=4 recorded_by "$record" -- ./reversal
     printf '%s\n' 'reversal.c:18: 1st "journal" (journal, sleep mutex)' 'reversal.c:19: 2nd "pool" (pool, sleep mutex)' \
         'reversal.c:10: "pool" -> "journal"' >places
     if command -v vim >/dev/null; then

@@ -5,21 +5,21 @@
 same() {
     "$@" >plain.out 2>/dev/null
     plain=$?
-    "$record" --frames 8 -- "$@" >recorded.out 2>recorded.err
+    RECORD_FRAMES=8 "$record" -- "$@" >recorded.out 2>recorded.err
     recorded=$?
     cmp plain.out recorded.out && [ "$plain" = "$recorded" ]
 }
 
 # tells_as REPORTS PROGRAM: it is told of the program, with all callers, what stands there.
 tells_as() {
-    "$record" --frames 8 -- "$2" 2>recorded.err
+    RECORD_FRAMES=8 "$record" -- "$2" 2>recorded.err
     told <recorded.err | diff "$1" -
 }
 
 # Names with any bytes, in each place that one comes from: none ends a line or a field of the recorder's file.
 if wanted words; then
     compile reversal
-    "$record" --frames 8 -- ./reversal 2>&1 | told >reversal.told
+    RECORD_FRAMES=8 "$record" -- ./reversal 2>&1 | told >reversal.told
     odd=$(printf 'x\ninit 1 mtx - 9 1\ncheck 1 1 x n 5')
     cp reversal "$odd"
     tells_as reversal.told "./$odd"
@@ -49,7 +49,7 @@ if wanted words; then
         [ "$(tail -n 1 recorded.err)" = "record: 1 report, 0 circles, 1 process" ] && grep -q '^ 1st "jo ur" (sleep mutex) in checkpoint (space)$' recorded.err &&
             ! grep -q 'nothing is known\|no room' recorded.err
         tell words "a variable whose name has a space" $?
-        "$record" --frames 8 -- ./newline 2>&1 | told >recorded.err
+        RECORD_FRAMES=8 "$record" -- ./newline 2>&1 | told >recorded.err
         [ "$(tail -n 1 recorded.err)" = "record: 1 report, 0 circles, 1 process" ] &&
             grep -q '^ 2nd "po?many 0 0 0 x 0 0 x?ol" ' recorded.err && grep -q '^single locks: both orders, the same locks, ' recorded.err
         tell words "a variable whose name has newlines" $?
@@ -83,7 +83,7 @@ if wanted joins; then
     compile joins
     "${CC:-cc}" -g -fPIC -shared -DLIBRARY -pthread -o libjoins.so joins.c -ldl
     "${CC:-cc}" -g -rdynamic -pthread -o joins joins.c -ldl
-    LD_PRELOAD="$work/libjoins.so" timeout 60 "$record" --frames 8 -- ./joins >recorded.out 2>recorded.err
+    LD_PRELOAD="$work/libjoins.so" RECORD_FRAMES=8 timeout 60 "$record" -- ./joins >recorded.out 2>recorded.err
     if [ "$(cat recorded.out)" = "the same handle" ]; then
         told <recorded.err | grep -qx 'single locks: both orders, the same locks, threads N and N'
         tell joins "a thread that has the handle of one that was joined" $?

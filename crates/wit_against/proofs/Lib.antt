@@ -1,4 +1,3 @@
 pub mod Clean
 pub mod Following
 pub mod Places
-pub mod Runs

@@ -12,8 +12,8 @@ use Rattle.clap.specs.Walk.{Held, Step, trailing, after_flag, after_step, bundle
 use Rattle.clap.specs.Walk.{finished, idle, long_or_other, nothing_held, plain, short_or_plain}
 use Rattle.clap.specs.Walk.{value, walk_from, walked}
 use Rattle.clap.proofs.OnLiterals.{clap_on_literals}
-use Rattle.wit_trace.specs.declared.view.View.TheVariants.{Reports, Graph, Locks, Circle, State}
-use Rattle.wit_trace.specs.declared.view.View.TheVariants.{Clean}
+use Rattle.wit_lines.specs.declared.view.View.TheVariants.{Reports, Graph, Locks, Circle, State}
+use Rattle.wit_lines.specs.declared.view.View.TheVariants.{Clean}
 use Rattle.wit_command.specs.declared.command.Command.{Command}
 use Rattle.wit_command.specs.declared.command.Command.TheVariants.{Show, Migrate, Forecast, Grade}
 use Rattle.wit_command.specs.declared.command.Command.TheVariants.{Findings, Write, Demo}

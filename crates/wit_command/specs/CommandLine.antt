@@ -6,8 +6,8 @@ use Rattle.clap.specs.Words.{App, Text as Word, new_app, new_rule, with_rule}
 use Rattle.clap.specs.declared.builder.action.ArgAction.TheVariants.{Set}
 use Rattle.wit_model.specs.Trace.Words.{number_of}
 use Rattle.wit_merge.specs.declared.machine.Shown.TheVariants.{Merged, Text, Unseen}
-use Rattle.wit_trace.specs.declared.view.View.TheVariants.{Reports, Graph, Locks, Circle, State}
-use Rattle.wit_trace.specs.declared.view.View.TheVariants.{Clean}
+use Rattle.wit_lines.specs.declared.view.View.TheVariants.{Reports, Graph, Locks, Circle, State}
+use Rattle.wit_lines.specs.declared.view.View.TheVariants.{Clean}
 use Rattle.wit_command.specs.declared.command.Command.{Command}
 use Rattle.wit_command.specs.declared.command.Command.TheVariants.{Show, Migrate, Grade, Demo}
 use Rattle.wit_command.specs.declared.command.Command.TheVariants.{Findings, Forecast, Import, Judge, Orders}

@@ -1,7 +1,7 @@
 //! What the program can be asked to do.
 
+use wit_lines::View;
 use wit_merge::Shown;
-use wit_trace::View;
 
 /// What an import of ftrace tells by locks.
 #[derive(Clone, Copy, Debug, PartialEq, Eq)]

@@ -18,8 +18,8 @@ use std::convert::AsStr;
 use std::str;
 use wit_fields::LineError;
 use wit_fields::numbers::number_of;
+use wit_lines::View;
 use wit_merge::Shown;
-use wit_trace::View;
 
 /// What these words ask for, which stand behind the program's name: `None` where they aren't
 /// exactly one word that says it, or `orders` and what is to be done with them, or `import` and a source.

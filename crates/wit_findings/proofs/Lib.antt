@@ -1,4 +1,4 @@
 pub mod Following
 pub mod Lines
-pub mod Reading
+pub mod Nothing
 pub mod Runs

@@ -5,8 +5,8 @@ use Rattle.wit_model.specs.declared.lines.Cause.{Cause}
 use Rattle.wit_model.specs.Trace.Moving.{with_feeds}
 use Rattle.wit_model.specs.Trace.Output.{bad_text}
 use Rattle.wit_stream.specs.declared.summary.Summary.{Summary}
-use Rattle.wit_trace.specs.Replays.{ShowsTrace}
-use Rattle.wit_trace.specs.declared.view.View.TheVariants.{Circle}
+use Rattle.wit_lines.specs.Replays.{ShowsTrace}
+use Rattle.wit_lines.specs.declared.view.View.TheVariants.{Circle}
 use Rattle.wit_forecast.specs.Errands.{AreErrands}
 use Rattle.wit_forecast.specs.Owners.{own, Begins, most_seats}
 use Rattle.wit_forecast.specs.declared.outcomes.Outcome.{Outcome}

@@ -13,8 +13,8 @@ use crate::reading::Trace;
 use std::alloc::{AllocError, Global};
 use std::io::{BufRead, Write};
 use wit_model::Cause;
-use wit_stream::{Failures, Machine, Pace, ReplayError, Step, Summary, run};
-use wit_trace::{View, bad_text, replay};
+use wit_stream::{Failures, Machine, Pace, ReplayError, Step, Summary, bad_text, run};
+use wit_trace::{View, replay};
 
 /// Reads a trace of the second version, and writes of each reversal and each two locks of a type a
 /// schedule, or a line that says why there is none.

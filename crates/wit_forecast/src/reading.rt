@@ -3,11 +3,11 @@
 use crate::deeds::{Act, Deed};
 use std::alloc::{AllocError, Global};
 use std::mem;
-use wit_model::{Call, Fault, FileNo, Limits, Line, LockNo, Mode, RawStep, Reply, SeatNo, Version};
-use wit_trace::{
-    LineCall, LineError, Prelude, add_line, call_of, file_of, is_prelude, new_prelude, parse_line,
-    verifier_of,
+use wit_grammar::{LineError, parse_line};
+use wit_lines::{
+    LineCall, Prelude, add_line, call_of, file_of, is_prelude, new_prelude, verifier_of,
 };
+use wit_model::{Call, Fault, FileNo, Limits, Line, LockNo, Mode, RawStep, Reply, SeatNo, Version};
 use wit_world::World;
 
 /// A request that was reported: a reversal, or a second lock of a type.

@@ -27,7 +27,7 @@ pub trait Gate {
     /// The gate was met so that it lets nobody in in this mode.
     ghost bars: { Self → Mode → Self.Met → Type 0 };
 
-    /// The gate was met so that it lets nobody in in this mode who waits: as many share it as can.
+    /// The gate is full: even a waiting request in this mode is refused.
     ghost refuses: { Self → Mode → Self.Met → Type 0 };
 
     /// The gate was met with more out than one share.

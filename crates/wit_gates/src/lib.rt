@@ -3,24 +3,24 @@
 #![tactic(auto)]
 
 mod claim;
-mod cond_gate;
 mod gate;
 mod left;
 mod met;
 mod rule;
-mod spin_gate;
 mod ticket;
+mod wait_gate;
+mod waiting;
 mod word;
 
 pub use claim::Claim;
-pub use cond_gate::CondGate;
 pub use gate::Gate;
 pub use left::Left;
 pub use met::Met;
 pub use rule::Counts;
-pub use spin_gate::SpinGate;
 pub use ticket::Ticket;
-pub use word::{Turn, Word};
+pub use wait_gate::{CondGate, SpinGate, WaitGate};
+pub use waiting::{Sleeping, Spinning, Waiting};
+pub use word::{InTurn, Turn, Word};
 
 #[cfg(test)]
 mod tests;

@@ -21,17 +21,26 @@ use wit_model::Mode;
 /// share it, which is up to 4,294,967,294.
 ///
 /// The tickets that are out add up to it at every moment. It is changed through a `&`, by single
-/// steps. Each takes the guard of a mutex round a [`Turn`]: so no step comes between what a waiter
-/// looks at and its sleep. Contracts see which word it is.
+/// steps. Each is taken in a turn ([`InTurn`]). Contracts see which word it is.
 #[derive(Drop)]
 pub struct Word {
     table: Table<(), Claim, (), Counts, Global>,
 }
 
-/// The turn to take steps on a word. With each word one is made, and there are no others: a gate has
-/// it under a mutex, and can take steps under no other mutex.
+/// The turn to take steps on a word. With each word one is made, and there are no others.
 #[derive(Drop)]
 pub struct Turn(());
+
+/// That its holder may take a step on a word now. Who keeps the turn under a mutex has it `Locked`
+/// alone: then no step comes between what a waiter looks at and its sleep. Whose waiters don't sleep
+/// may keep it `Open`: each step is atomic by itself.
+#[derive(Drop)]
+pub enum InTurn<'a> {
+    /// The turn lies under a mutex, which is held.
+    Locked(MutexGuard<'a, Turn>),
+    /// The turn lies under none.
+    Open(&'a Turn),
+}
 
 impl Model for Word {
     ghost Value = { TableId };
@@ -66,7 +75,7 @@ impl Word {
 
     /// A share, where nobody has the gate alone and one more can share it. Else the word as it was
     /// met, which lets nobody in so.
-    pub fn try_share<R: Wait>(&self, rt: &R, _turn: &MutexGuard<'_, Turn>) -> Result<Ticket, Met>
+    pub fn try_share<R: Wait>(&self, rt: &R, _turn: &InTurn<'_>) -> Result<Ticket, Met>
         ensures { MatchResult result (λ t. t ≡ pass self.now Shared) (IsBarred self.now Shared) }
     {
         let shared = &self.table.shared;
@@ -85,7 +94,7 @@ impl Word {
     }
 
     /// The exclusive hold, where nobody has the gate. Else the word as it was met.
-    pub fn try_exclusive(&self, _turn: &MutexGuard<'_, Turn>) -> Result<Ticket, Met>
+    pub fn try_exclusive(&self, _turn: &InTurn<'_>) -> Result<Ticket, Met>
         ensures { MatchResult result (λ t. t ≡ pass self.now Exclusive)
             (IsBarred self.now Exclusive) }
     {
@@ -99,7 +108,7 @@ impl Word {
     }
 
     /// Takes a ticket back. It never fails.
-    pub fn free(&self, _turn: &MutexGuard<'_, Turn>, mode: Mode, ticket: Ticket) -> Left
+    pub fn free(&self, _turn: &InTurn<'_>, mode: Mode, ticket: Ticket) -> Left
         requires { ticket ≡ pass self.now mode }
         ensures { result ≡ pass self.now mode }
     {
@@ -120,7 +129,7 @@ impl Word {
     /// the word as it was met.
     pub fn try_upgrade(
         &self,
-        _turn: &MutexGuard<'_, Turn>,
+        _turn: &InTurn<'_>,
         ticket: Ticket,
     ) -> Result<Ticket, (Ticket, Met)>
         requires { ticket ≡ pass self.now Shared }
@@ -138,7 +147,7 @@ impl Word {
     }
 
     /// A share for the exclusive hold. It never fails.
-    pub fn downgrade(&self, _turn: &MutexGuard<'_, Turn>, ticket: Ticket) -> Ticket
+    pub fn downgrade(&self, _turn: &InTurn<'_>, ticket: Ticket) -> Ticket
         requires { ticket ≡ pass self.now Exclusive }
         ensures { result ≡ pass self.now Shared }
     {

@@ -1,6 +1,5 @@
 pub mod Besides
 pub mod Codecs
 pub mod Following
-pub mod Runs
 pub mod Spelled
 pub mod Words

@@ -19,24 +19,6 @@ use wit_model::{Keyword, Line, LockLine, RawStep, Verb};
 /// The keyword that a line begins with, and the bytes behind it.
 pub type Begun<'a> = (Keyword, &'a [u8]);
 
-/// Reads the first word of a line: `None` where it is no keyword. The most frequent keywords are
-/// compared at once, and the end of no word has to be found then.
-#[inline(always)]
-pub fn begin_line(bytes: &[u8]) -> Option<Begun<'_>>
-    ensures { Begins result (line_of bytes.now) }
-{
-    if let Some(rest) = behind_lock(bytes) {
-        return Some((Keyword::Plain(Verb::Note), rest));
-    }
-    if let Some(rest) = behind_unlock(bytes) {
-        return Some((Keyword::Unlock, rest));
-    }
-    if let Some(rest) = behind_check(bytes) {
-        return Some((Keyword::Check, rest));
-    }
-    begin_any(bytes)
-}
-
 /// The bytes after the word `lock` of a line that begins with it.
 #[inline(always)]
 pub fn behind_lock(bytes: &[u8]) -> Option<&[u8]>
@@ -127,9 +109,9 @@ fn is_free(bytes: &[u8]) -> bool
     matches!(bytes, [b'f', b'r', b'e', b'e', b' ', ..])
 }
 
-/// Reads the first word of a line whose keyword is none of the most frequent ones.
+/// Reads the first word of a line: `None` where it is no keyword.
 #[tactic(auto, unfolding(wit_model::specs::Trace::Reading::line_of))]
-pub fn begin_any(bytes: &[u8]) -> Option<Begun<'_>>
+pub fn begin_line(bytes: &[u8]) -> Option<Begun<'_>>
     ensures { Begins result (line_of bytes.now) }
 {
     let (word, rest) = words::split_before(b' ', bytes);

@@ -13,7 +13,7 @@ mod short_lines;
 mod spellable;
 
 pub use beginnings::{
-    Begun, begin_any, begin_line, behind_check, behind_free, behind_lock, behind_take,
+    Begun, begin_line, behind_check, behind_free, behind_lock, behind_take,
     behind_unlock, finish_line, lock_line,
 };
 pub use lock_lines::borrowed;

@@ -1,5 +1,4 @@
 pub mod Further
 pub mod Keys
-pub mod Runs
 pub mod Spelled
 pub mod Told

@@ -22,8 +22,7 @@ use std::alloc::{AllocError, Global};
 use std::io::{BufRead, Write};
 use wit_fields::LineError;
 use wit_model::{Boxed, Cause, Class, Name};
-use wit_stream::{Failures, Machine, Pace, ReplayError, Step, Summary, run};
-use wit_trace::bad_text;
+use wit_stream::{Failures, Machine, Pace, ReplayError, Step, Summary, bad_text, run};
 
 /// Reads lines in which a script tells how threads acquire and release locks, and writes a trace:
 /// each request of which a pair of types is new, the held one and the one that is asked for, with

@@ -12,8 +12,7 @@ use std::io::{BufRead, Write};
 use wit_gathered::{Gathering, Settings};
 use wit_import::Counts;
 use wit_model::Cause;
-use wit_stream::{Failures, Machine, Pace, ReplayError, Step, Summary, run};
-use wit_trace::bad_text;
+use wit_stream::{Failures, Machine, Pace, ReplayError, Step, Summary, bad_text, run};
 
 /// Who printed the lines.
 #[derive(Clone, Copy, Debug, PartialEq, Eq)]

@@ -22,11 +22,11 @@ use Rattle.wit_model.proofs.Moved.Preludes.{tells-same}
 use Rattle.wit_stream.specs.Text.{text, text_of, HasNoFeed}
 use Rattle.wit_stream.specs.declared.summary.Summary.{Summary}
 use Rattle.wit_stream.proofs.TextLemmas.{text_of-line}
-use Rattle.wit_trace.specs.Replays.{IsWritten, total}
-use Rattle.wit_trace.specs.Shown.{IsLastOf, IsShownAtEnd}
-use Rattle.wit_trace.specs.declared.view.View.{View}
-use Rattle.wit_trace.specs.declared.view.View.TheVariants.{Reports, Graph, Locks, Circle, State}
-use Rattle.wit_trace.specs.declared.view.View.TheVariants.{Clean}
+use Rattle.wit_lines.specs.Replays.{IsWritten, total}
+use Rattle.wit_lines.specs.Shown.{IsLastOf, IsShownAtEnd}
+use Rattle.wit_lines.specs.declared.view.View.{View}
+use Rattle.wit_lines.specs.declared.view.View.TheVariants.{Reports, Graph, Locks, Circle, State}
+use Rattle.wit_lines.specs.declared.view.View.TheVariants.{Clean}
 use Rattle.wit_migrate.specs.Again.{SaysTheSame, ShowsNoCircle, WritesTheSame}
 use Rattle.wit_migrate.specs.Migrates.{Migrates}
 use Rattle.wit_stream.specs.Stream.{WritesOutput}

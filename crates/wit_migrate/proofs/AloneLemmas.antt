@@ -11,7 +11,7 @@ use Rattle.wit_model.specs.Trace.Output as output
 use Rattle.wit_model.specs.World.Scenes.{RawLock}
 use Rattle.wit_fields.specs.declared.errors.LineError.{LineError}
 use Rattle.wit_migrate.specs.Migrates.{MovesAsDue, Writes}
-use Rattle.wit_trace.specs.Replays.{FailsFor, Remarks}
+use Rattle.wit_lines.specs.Replays.{FailsFor, Remarks}
 use Rattle.wit_migrate.proofs.NumberedLemmas.{bad-alone, failed}
 
 module _ (s : Story) (raw : List RawLock) (m : ℕ) (bytes : List ℕ) (due : ℕ → output.Outcome) where

@@ -8,7 +8,7 @@ use Rattle.wit_fields.specs.declared.errors.LineError.TheVariants.{Bad, Memory}
 use Rattle.wit_migrate.specs.Migrates.{EndsFor, GoesOver, HasMoved, MovesAsDue, standing}
 use Rattle.wit_migrate.specs.declared.behind.Behind.{Behind}
 use Rattle.wit_migrate.specs.declared.migrating.Migrating.TheVariants.{Moved}
-use Rattle.wit_trace.specs.Replays.{total}
+use Rattle.wit_lines.specs.Replays.{total}
 use Rattle.wit_stream.specs.declared.machine.Step as machine
 use Rattle.wit_stream.specs.declared.machine.Step.TheVariants as step
 use Rattle.wit_stream.specs.declared.summary.Summary.{Summary}

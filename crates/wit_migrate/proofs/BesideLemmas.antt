@@ -32,7 +32,7 @@ use Rattle.wit_migrate.specs.Migrates.{Writes, weight}
 use Rattle.wit_migrate.specs.Migrates.{before_of, behind_of, line_and_step, deed, is_first}
 use Rattle.wit_migrate.specs.Migrates.{line_of_step}
 use Rattle.wit_migrate.specs.declared.steps.LockStep.{LockStep}
-use Rattle.wit_trace.proofs.CountLemmas.{grown-le}
+use Rattle.wit_lines.proofs.CountLemmas.{grown-le}
 
 -- it makes no lock
 abbrev pub IsPlain : Call → Type 0

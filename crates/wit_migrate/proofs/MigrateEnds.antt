@@ -21,8 +21,8 @@ use Rattle.wit_model.specs.World.Scenes.{RawLock}
 use Rattle.wit_stream.specs.Machine.{BreaksAt, first_of}
 use Rattle.wit_migrate.specs.Migrates.{IsMigrated, MigratesFrom, GoesOver, IsRefusedAt, ReachesLine}
 use Rattle.wit_migrate.specs.Migrates.{migrated, moved_to}
-use Rattle.wit_trace.specs.Replays.{total}
-use Rattle.wit_trace.proofs.ReplayLemmas.{begins_prelude, no_profile, starts-le}
+use Rattle.wit_lines.specs.Replays.{total}
+use Rattle.wit_lines.proofs.LongLines.{begins_prelude, no_profile, starts-le}
 use Rattle.wit_stream.specs.Stream.{ReadingGoesOn, OutputFrom, ReadsToEnd, WritesLines}
 use Rattle.wit_migrate.specs.declared.migrating.Migrating.{Migrating}
 use Rattle.wit_migrate.specs.declared.migrating.Migrating.TheVariants as kept

@@ -34,7 +34,7 @@ use Rattle.wit_stream.specs.Machine.{Follows}
 use Rattle.wit_migrate.specs.Migrates.{IsMigrated, EndsWith, GoesOver, HasMoved, IsRefusedAt}
 use Rattle.wit_migrate.specs.Migrates.{MovesAsDue, Writes}
 use Rattle.wit_migrate.specs.Migrates.{kept_bytes, migrated, moved_to}
-use Rattle.wit_trace.specs.Replays.{IsVerifierOf, total}
+use Rattle.wit_lines.specs.Replays.{IsVerifierOf, total}
 use Rattle.wit_migrate.specs.declared.migrating.Migrating.{Migrating}
 use Rattle.wit_stream.specs.declared.machine.Step as machine
 use Rattle.wit_stream.specs.declared.machine.Step.TheVariants as step

@@ -26,7 +26,7 @@ use Rattle.wit_model.specs.Trace.Spelling.{spelling}
 use Rattle.wit_model.specs.World.Moving.{step_before, step_behind, is_free_beside, raw_moved}
 use Rattle.wit_model.specs.World.Scenes.{RawLock}
 use Rattle.wit_migrate.specs.Migrates.{Writes, moving_reports}
-use Rattle.wit_trace.proofs.CountLemmas.{CountsOne, calls_one, grown-le}
+use Rattle.wit_lines.proofs.CountLemmas.{CountsOne, calls_one, grown-le}
 use Rattle.wit_grammar.specs.declared.parse.TheConstants.{LONGEST}
 
 -- a line's outcome counts one at most

@@ -21,10 +21,10 @@ use Rattle.wit_model.specs.World.Scenes.{RawLock}
 use Rattle.wit_fields.specs.Fields.{RefusesLine}
 use Rattle.wit_fields.specs.declared.errors.LineError.{LineError}
 use Rattle.wit_fields.specs.declared.errors.LineError.TheVariants.{Bad, Memory}
-use Rattle.wit_trace.specs.LineCalls.{NumbersFile, at_number, file_named}
+use Rattle.wit_lines.specs.LineCalls.{NumbersFile, at_number, file_named}
 use Rattle.wit_migrate.specs.Migrates.{AddsOneAtMost, MovesAsDue}
-use Rattle.wit_trace.specs.Replays.{FailsFor, IsBadFor}
-use Rattle.wit_trace.proofs.CallLemmas.{call_refused, not_numbered}
+use Rattle.wit_lines.specs.Replays.{FailsFor, IsBadFor}
+use Rattle.wit_lines.proofs.CallLemmas.{call_refused, not_numbered}
 
 -- ---- a line that is bad
 

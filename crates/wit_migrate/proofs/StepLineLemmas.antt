@@ -17,7 +17,7 @@ use Rattle.wit_model.specs.Trace.LineCalls.{call_of}
 use Rattle.wit_model.specs.Trace.Reading.{line_of}
 use Rattle.wit_model.specs.Trace.Spelling.{spaced, spelling}
 use Rattle.wit_model.proofs.Spelling.Laws.{line_takes}
-use Rattle.wit_trace.specs.LineCalls.{at_number}
+use Rattle.wit_lines.specs.LineCalls.{at_number}
 use Rattle.wit_migrate.specs.Migrates.{IsLineOf}
 
 -- ---- which line it is

@@ -5,9 +5,9 @@ use Rattle.wit_model.specs.Trace.Moving.{TellsTheSame}
 use Rattle.wit_stream.specs.Stream.{IsInput}
 use Rattle.wit_stream.specs.Text.{text_of}
 use Rattle.wit_stream.specs.declared.summary.Summary.{Summary}
-use Rattle.wit_trace.specs.Replays.{ShowsTrace}
-use Rattle.wit_trace.specs.declared.view.View.{View}
-use Rattle.wit_trace.specs.declared.view.View.TheVariants.{Circle, State}
+use Rattle.wit_lines.specs.Replays.{ShowsTrace}
+use Rattle.wit_lines.specs.declared.view.View.{View}
+use Rattle.wit_lines.specs.declared.view.View.TheVariants.{Circle, State}
 
 -- a view that shows no circle of seats: those of the two versions may differ
 abbrev pub ShowsNoCircle : View → Type 0

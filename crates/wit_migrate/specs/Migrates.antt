@@ -36,8 +36,8 @@ use Rattle.wit_fields.specs.declared.errors.LineError.TheVariants.{Bad, Memory}
 use Rattle.wit_grammar.specs.declared.parse.TheConstants.{LONGEST}
 use Rattle.wit_world.specs.Steps.{deed_in}
 use Rattle.wit_stream.specs.Machine.{Follows}
-use Rattle.wit_trace.specs.Outputs.{summary_of}
-use Rattle.wit_trace.specs.Replays.{prelude_of, total}
+use Rattle.wit_lines.specs.Outputs.{summary_of}
+use Rattle.wit_lines.specs.Replays.{prelude_of, total}
 use Rattle.wit_stream.specs.Text.{text_of}
 use Rattle.wit_migrate.specs.declared.migrating.Migrating.{Migrating}
 use Rattle.wit_migrate.specs.declared.migrating.Migrating.TheVariants.{Unmoved, Keeping, Moved}

@@ -9,21 +9,21 @@ ghost use Rattle.wit_model.specs.Trace.Reading.{line_of};
 ghost use Rattle.wit_grammar.specs.Lines.{Begins, as_line};
 ghost use Rattle.wit_grammar.specs.declared.parse.TheConstants.{LONGEST};
 ghost use Rattle.wit_world.specs.Steps.{makes_lock};
-ghost use Rattle.wit_trace.specs.LineCalls.{Keeps, as_call};
+ghost use Rattle.wit_lines.specs.LineCalls.{Keeps, as_call};
 ghost use Rattle.wit_migrate.specs.Migrates.{IsLineOf, MovesAsDue, moving_reports, standing};
 ghost use Rattle.wit_migrate.specs.Migrates.{weight};
-ghost use Rattle.wit_trace.specs.Replays.{total};
+ghost use Rattle.wit_lines.specs.Replays.{total};
 
 use crate::steps::{do_beside, step_beside};
 use crate::texts::line_in;
 use std::alloc::Global;
 use wit_core::Verifier;
 use wit_grammar::{Begun, LineError, finish_line};
-use wit_model::{Call, FileNo, Line, LockLine, SeatNo};
-use wit_stream::Summary;
-use wit_trace::{
+use wit_lines::{
     LineCall, assertion, call_of, file_of, file_on_lock, lock_call, number_of, remark, warning,
 };
+use wit_model::{Call, FileNo, Line, LockLine, SeatNo};
+use wit_stream::Summary;
 use wit_world::Raw;
 
 /// A verifier that was told the calls so far, and what seats have of the locks themselves.

@@ -1,6 +1,6 @@
 //! The lines past the prelude of a trace that is migrated, of which most make a call that is logged.
 
-ghost use Rattle.wit_trace.specs.LineCalls.{Keeps};
+ghost use Rattle.wit_lines.specs.LineCalls.{Keeps};
 ghost use Rattle.wit_migrate.specs.Migrates.{MayMove, HasMoved};
 ghost use Rattle.wit_migrate.specs.declared.migrating.Migrating.TheVariants.{Moved};
 
@@ -9,9 +9,9 @@ use crate::endings::failed_step;
 use std::alloc::{AllocError, Global};
 use std::mem;
 use wit_grammar::Begun;
+use wit_lines::LineReader;
 use wit_model::{Call, FileNo, LockLine, SeatNo};
 use wit_stream::Step;
-use wit_trace::LineReader;
 
 // What stands behind the prelude reads them itself: so no line asks again whether it is over.
 impl LineReader for Behind {

@@ -5,7 +5,7 @@ ghost use Rattle.wit_model.specs.Trace.Moving.{kept_lines, read_to, with_feeds};
 ghost use Rattle.wit_model.specs.Trace.Moving as moving;
 ghost use Rattle.wit_model.specs.Trace.Output.{bad_text, summed};
 ghost use Rattle.wit_migrate.specs.Migrates.{EndsFor, EndsWith, moved_to, moving_reports};
-ghost use Rattle.wit_trace.specs.Replays.{total};
+ghost use Rattle.wit_lines.specs.Replays.{total};
 
 use crate::migrating::Migrating;
 use crate::texts::{join, whole_lines};
@@ -13,8 +13,7 @@ use std::alloc::{AllocError, Global};
 use std::mem;
 use wit_grammar::LineError;
 use wit_model::{Boxed, Cause};
-use wit_stream::{Step, Summary};
-use wit_trace::bad_text;
+use wit_stream::{Step, Summary, bad_text};
 
 impl Migrating {
     /// What was read up to here.

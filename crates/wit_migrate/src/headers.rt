@@ -12,8 +12,8 @@ use crate::migrating::Migrating;
 use crate::texts::one_line;
 use std::alloc::{AllocError, Global};
 use wit_grammar::{LineError, print_line};
+use wit_lines::new_prelude;
 use wit_model::{Cause, Limits, Line, Version};
-use wit_trace::new_prelude;
 
 /// The header comes first, and is written with the number of the second version, which it may not
 /// have.

@@ -21,9 +21,9 @@ use crate::texts::join;
 use std::alloc::{AllocError, Global};
 use std::io::{BufRead, Write};
 use wit_grammar::{LineError, parse_line};
+use wit_lines::{Prelude, read_line};
 use wit_model::{Cause, Line};
 use wit_stream::{Failures, Machine, Pace, Ports, ReplayError, Step, Summary, run};
-use wit_trace::{Prelude, read_line};
 
 /// Reads a trace of the first version, and writes it as one of the second: its own lines, and
 /// between them the steps of the locks themselves that its calls need. A lock is taken before it is

@@ -5,7 +5,7 @@ ghost use Rattle.wit_model.specs.Trace.Moving.{moving_entered};
 ghost use Rattle.wit_model.specs.Trace.Moving as moving;
 ghost use Rattle.wit_migrate.specs.Migrates.{MovesAsDue, ReachesLine};
 ghost use Rattle.wit_migrate.specs.Migrates.{kept_bytes, moved_to, moving_reports, weighed};
-ghost use Rattle.wit_trace.specs.Replays.{prelude_of};
+ghost use Rattle.wit_lines.specs.Replays.{prelude_of};
 
 use crate::behind::Behind;
 use crate::migrating::Migrating;
@@ -13,8 +13,8 @@ use crate::texts::whole_lines;
 use std::alloc::{AllocError, Global};
 use std::mem;
 use wit_grammar::LineError;
+use wit_lines::{Prelude, add_line, is_prelude, verifier_of};
 use wit_model::{Cause, Line};
-use wit_trace::{Prelude, add_line, is_prelude, verifier_of};
 
 /// What is written before a line, once it is known whether the prelude ends there.
 #[derive(Drop)]

@@ -2,7 +2,6 @@ pub mod Certified
 pub mod Circles
 pub mod Forward
 pub mod Keys
-pub mod Runs
 pub mod Silent
 pub mod Spelled
 pub mod Types

@@ -1,4 +1,5 @@
 pub mod AnswerLemmas
+pub mod Runs
 pub mod StreamInputs
 pub mod StreamLemmas
 pub mod TextLemmas

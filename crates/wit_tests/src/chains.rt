@@ -1,11 +1,11 @@
-//! A lock acquired twice and let go twice, and lists that find no memory. What seats hold behind
-//! their calls is told by the cases of `tests/`.
+//! A lock acquired twice and let go twice. What seats hold after their calls is told by the cases
+//! of `tests/`.
 
-use linked_list_allocator::LocalHeap;
 use std::test::Fail;
-use wit_held::{VecLists, forget, oldest_held, record, record_new};
+use wit_held::{forget, oldest_held, record, record_new};
 use wit_model::chunks::Lists;
-use wit_model::{Fault, FileNo, Instance, Limits, LockNo, Mode, Site};
+use wit_model::{FileNo, Instance, Limits, LockNo, Mode, Site};
+use wit_pool::Pool;
 
 /// A lock that was acquired once, at the line of its number.
 fn held(lock: u32) -> Instance {
@@ -23,7 +23,7 @@ fn held(lock: u32) -> Instance {
 
 /// Records an acquisition in a list of at most one lock; false where it may not be recorded or
 /// finds no room.
-fn acquire(lists: &mut VecLists, list: u16, taken: Instance) -> bool {
+fn acquire(lists: &mut Pool, list: u16, taken: Instance) -> bool {
     if list == 0 || list as usize > lists.lists() || lists.len(list) > 1 {
         return false;
     }
@@ -34,14 +34,14 @@ fn acquire(lists: &mut VecLists, list: u16, taken: Instance) -> bool {
 }
 
 /// Takes a release back in a list of at most one lock.
-fn release(lists: &mut VecLists, list: u16, lock: LockNo) {
+fn release(lists: &mut Pool, list: u16, lock: LockNo) {
     if list > 0 && list as usize <= lists.lists() && lists.len(list) <= 1 {
         forget(lists, list, lock);
     }
 }
 
 /// How the oldest lock of a list is held.
-fn oldest(lists: &VecLists, list: u16) -> Option<Instance> {
+fn oldest(lists: &Pool, list: u16) -> Option<Instance> {
     if list == 0 || list as usize > lists.lists() || lists.len(list) == 0 {
         return None;
     }
@@ -49,19 +49,19 @@ fn oldest(lists: &VecLists, list: u16) -> Option<Instance> {
 }
 
 /// Whether a list that acquires a lock holds its oldest one so.
-fn acquires(lists: &mut VecLists, list: u16, taken: Instance, then: Instance) -> bool {
+fn acquires(lists: &mut Pool, list: u16, taken: Instance, then: Instance) -> bool {
     acquire(lists, list, taken) && oldest(lists, list) == Some(then)
 }
 
 /// Whether a list that lets a lock go holds its oldest one so.
-fn releases(lists: &mut VecLists, list: u16, lock: u32, then: Option<Instance>) -> bool {
+fn releases(lists: &mut Pool, list: u16, lock: u32, then: Option<Instance>) -> bool {
     release(lists, list, LockNo(lock));
     oldest(lists, list) == then
 }
 
 #[test]
 fn acquired_twice(rt: HostRuntime) -> Result<(), Fail> {
-    let mut lists = VecLists::new(rt.alloc(), 1, 1)?;
+    let mut lists = Pool::new(rt.alloc(), 1, 1)?;
     let first = held(7);
     let mut again = first;
     again.site.line = 9;
@@ -72,32 +72,5 @@ fn acquired_twice(rt: HostRuntime) -> Result<(), Fail> {
     for (lock, then) in [(8, Some(twice)), (7, Some(again)), (7, None)] {
         assert!(rt; releases(&mut lists, 1, lock, then));
     }
-    Ok(())
-}
-
-/// Whether lists that find room in a heap take a lock.
-fn is_made_in(heap: &LocalHeap) -> Result<bool, Fault> {
-    let mut lists = VecLists::new(heap, 4, 4)?;
-    Ok(lists.push(4, held(1)) && lists.free_chunks() == 3)
-}
-
-// The heap grows by its least block, so that each growth of `new` is the first to be refused at one
-// of the sizes.
-#[test]
-fn want_of_memory(rt: HostRuntime) -> Result<(), Fail> {
-    let mut made = false;
-    for blocks in 0..64 {
-        let heap = LocalHeap::new(rt.alloc(), blocks * 16)?;
-        let told = is_made_in(&heap);
-        made = made || told.is_ok();
-        let expected = if made {
-            Ok(true)
-        } else {
-            Err(Fault::OutOfMemory)
-        };
-        assert_eq!(rt; told, expected, "in {blocks} blocks");
-        assert_eq!(rt; heap.used(), 0, "in {blocks} blocks");
-    }
-    assert!(rt; made);
     Ok(())
 }

@@ -1,14 +1,13 @@
-//! The pool: beside lists in vectors, full, in want of memory, and in a thread.
+//! The pool: beside plain lists, full, in want of memory, and in a thread.
 
-ghost use Rattle.std.specs.Prelude.{◌≡◌, ◌<◌, true};
+ghost use Rattle.std.specs.Prelude.{◌<◌};
 ghost use Rattle.wit_model.specs.Rules.Chunks.{IsList};
 
 use linked_list_allocator::LocalHeap;
 use std::alloc::{AllocError, Global};
 use std::test::Fail;
 use std::thread;
-use wit_held::VecLists;
-use wit_model::chunks::Lists;
+use wit_model::chunks::{CHUNK, Lists};
 use wit_model::{Fault, FileNo, Instance, LockNo, Mode, Site};
 use wit_pool::Pool;
 
@@ -26,14 +25,14 @@ fn held(lock: u32) -> Instance {
     }
 }
 
-/// What a list holds, chunk by chunk, newest chunk first.
+/// What a list holds: its locks, the newest one first, and how many stand in each chunk.
 #[derive(PartialEq, Eq, Drop)]
 struct Contents {
     locks: Vec<Instance>,
     counts: Vec<usize>,
 }
 
-fn groups_of<L: Lists>(alloc: Global, lists: &L, list: u16) -> Result<Contents, AllocError>
+fn contents_of<L: Lists>(alloc: Global, lists: &L, list: u16) -> Result<Contents, AllocError>
     requires { IsList (L.chunks lists.now) list }
 {
     let mut locks = Vec::new(alloc);
@@ -41,7 +40,9 @@ fn groups_of<L: Lists>(alloc: Global, lists: &L, list: u16) -> Result<Contents, 
     let mut spot = lists.newest(list);
     while let Some(at) = spot {
         let chunk = lists.group(list, at);
-        locks.extend_from_slice(chunk)?;
+        for lock in chunk.iter().rev() {
+            locks.push(*lock)?;
+        }
         counts.push(chunk.len())?;
         spot = lists.older(list, at);
     }
@@ -57,46 +58,160 @@ enum Call {
 }
 
 /// Does it with a lock: false where it isn't done.
-fn done<L: Lists>(lists: &mut L, list: u16, call: Call, lock: u32) -> bool
-    requires { IsList (L.chunks lists.old) list }
-{
-    let count = lists.len(list);
+fn done(pool: &mut Pool, list: u16, call: Call, lock: u32) -> bool {
+    if list == 0 || list as usize > pool.lists() {
+        return false;
+    }
+    let count = pool.len(list);
     match call {
-        Call::Push => lists.push(list, held(lock)),
+        Call::Push => pool.push(list, held(lock)),
         Call::Replace(place) => {
             if place < count {
-                lists.replace(list, place, held(lock));
+                pool.replace(list, place, held(lock));
             }
             place < count
         }
         Call::Remove(place) => {
             if place < count {
-                lists.remove(list, place);
+                pool.remove(list, place);
             }
             place < count
         }
     }
 }
 
-/// Whether there is this list in both.
-fn have_both(pool: &Pool, vectors: &VecLists, list: u16) -> bool
-    ensures pool { result ≡ true → IsList pool.now list }
-    ensures vectors { result ≡ true → IsList vectors.now list }
-{
-    list > 0 && list as usize <= pool.lists() && list as usize <= vectors.lists()
+/// A lock of one of the plain lists, and the number of its chunk there.
+#[derive(Clone, Copy, Debug)]
+struct Placed {
+    list: u16,
+    chunk: u32,
+    lock: Instance,
 }
 
-/// Whether both hold the same, group by group, and as many chunks are free.
-fn are_alike(alloc: Global, pool: &Pool, vectors: &VecLists) -> Result<bool, AllocError> {
-    for list in 1..5 {
-        if !have_both(pool, vectors, list) {
+/// All locks of plain lists, the oldest one first, and how many chunks there are for them.
+#[derive(Drop)]
+struct Plain {
+    placed: Vec<Placed>,
+    chunks: usize,
+}
+
+impl Plain {
+    fn of_list(&self, alloc: Global, list: u16) -> Result<Contents, AllocError> {
+        let mut locks = Vec::new(alloc);
+        let mut counts: Vec<usize> = Vec::new(alloc);
+        let mut last = None;
+        for placed in self.placed.iter().rev() {
+            if placed.list != list {
+                continue;
+            }
+            if last != Some(placed.chunk) {
+                counts.push(0)?;
+            }
+            last = Some(placed.chunk);
+            locks.push(placed.lock)?;
+            if let Some(count) = counts.last_mut() {
+                *count = count.wrapping_add(1);
+            }
+        }
+        Ok(Contents { locks, counts })
+    }
+
+    fn free_chunks(&self) -> usize {
+        let mut free = self.chunks;
+        for (place, one) in self.placed.iter().enumerate() {
+            let is_first = !self
+                .placed
+                .iter()
+                .take(place)
+                .any(|other| other.list == one.list && other.chunk == one.chunk);
+            if is_first {
+                free = free.saturating_sub(1);
+            }
+        }
+        free
+    }
+
+    /// Where in all the lock stands that has this place in its list.
+    fn place_of(&self, list: u16, place: usize) -> Option<usize> {
+        let mut before = 0usize;
+        for (at, placed) in self.placed.iter().enumerate() {
+            if placed.list == list {
+                if before == place {
+                    return Some(at);
+                }
+                before = before.wrapping_add(1);
+            }
+        }
+        None
+    }
+
+    /// The chunk for a list's next lock; `None` where none is free.
+    fn next_chunk(&self, list: u16) -> Option<u32> {
+        let newest = self
+            .placed
+            .iter()
+            .rev()
+            .find(|placed| placed.list == list)
+            .map_or(0, |placed| placed.chunk);
+        let mut count = 0usize;
+        for placed in self.placed.iter() {
+            if placed.list == list && placed.chunk == newest {
+                count = count.wrapping_add(1);
+            }
+        }
+        if count > 0 && count < CHUNK {
+            return Some(newest);
+        }
+        if self.free_chunks() == 0 {
+            return None;
+        }
+        Some(newest.wrapping_add(1))
+    }
+
+    fn push(&mut self, list: u16, lock: Instance) -> Result<bool, AllocError> {
+        let Some(chunk) = self.next_chunk(list) else {
+            return Ok(false);
+        };
+        self.placed.push(Placed { list, chunk, lock })?;
+        Ok(true)
+    }
+
+    fn done(&mut self, list: u16, call: Call, lock: u32) -> Result<bool, AllocError> {
+        let place = match call {
+            Call::Push => return self.push(list, held(lock)),
+            Call::Replace(place) | Call::Remove(place) => place,
+        };
+        let Some(at) = self.place_of(list, place) else {
+            return Ok(false);
+        };
+        if at >= self.placed.len() {
             return Ok(false);
         }
-        if groups_of(alloc, pool, list)? != groups_of(alloc, vectors, list)? {
+        match call {
+            Call::Remove(_) => {
+                let _removed = self.placed.remove(at);
+            }
+            _ => {
+                if let Some(placed) = self.placed.get_mut(at) {
+                    placed.lock = held(lock);
+                }
+            }
+        }
+        Ok(true)
+    }
+}
+
+/// Whether both hold the same, chunk by chunk, and as many chunks are free.
+fn are_alike(alloc: Global, pool: &Pool, plain: &Plain) -> Result<bool, AllocError> {
+    for list in 1..5u16 {
+        if list as usize > pool.lists() {
+            return Ok(false);
+        }
+        if contents_of(alloc, pool, list)? != plain.of_list(alloc, list)? {
             return Ok(false);
         }
     }
-    Ok(pool.free_chunks() == vectors.free_chunks())
+    Ok(pool.free_chunks() == plain.free_chunks())
 }
 
 /// Numbers in a fixed sequence without a pattern.
@@ -125,22 +240,24 @@ impl Numbers {
 }
 
 #[test]
-fn beside_vectors(rt: HostRuntime) -> Result<(), Fail> {
+fn beside_plain_lists(rt: HostRuntime) -> Result<(), Fail> {
     let alloc = rt.alloc();
     let mut pool = Pool::new(alloc, 6, 4)?;
-    let mut vectors = VecLists::new(alloc, 6, 4)?;
+    let mut plain = Plain {
+        placed: Vec::new(alloc),
+        chunks: 6,
+    };
     let mut numbers = Numbers { last: 20 };
     let mut refused = 0u32;
     for step in 0..10_000 {
         let list = 1 + numbers.below(4) as u16;
         let call = numbers.call();
-        assert!(rt; have_both(&pool, &vectors, list));
         let told = done(&mut pool, list, call, step);
         if !told {
             refused = refused.wrapping_add(1);
         }
-        assert_eq!(rt; told, done(&mut vectors, list, call, step), "call {step}");
-        assert!(rt; are_alike(alloc, &pool, &vectors)?, "call {step}");
+        assert_eq!(rt; told, plain.done(list, call, step)?, "call {step}");
+        assert!(rt; are_alike(alloc, &pool, &plain)?, "call {step}");
     }
     assert!(rt; refused > 100 && refused < 9_000);
     Ok(())
@@ -167,11 +284,11 @@ fn last_chunk(rt: HostRuntime) -> Result<(), Fail> {
     assert_eq!(rt; pool.free_chunks(), 0);
     for list in 1..513 {
         assert!(rt; list as usize <= pool.lists());
-        let before = groups_of(alloc, &pool, list)?;
+        let before = contents_of(alloc, &pool, list)?;
         assert_eq!(rt; before.counts.len(), 128);
         assert!(rt; !pool.push(list, held(9)));
         assert!(rt; list as usize <= pool.lists());
-        assert!(rt; groups_of(alloc, &pool, list)? == before);
+        assert!(rt; contents_of(alloc, &pool, list)? == before);
         assert_eq!(rt; pool.free_chunks(), 0);
     }
     Ok(())

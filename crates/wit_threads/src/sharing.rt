@@ -6,7 +6,7 @@ use std::alloc::Global;
 use std::process::Abort;
 use std::sync::Wait;
 use std::test::Fail;
-use wit_gates::{CondGate, Gate, SpinGate};
+use wit_gates::{CondGate, Gate, SpinGate, WaitGate, Waiting};
 use wit_locks::Rw;
 use wit_model::{Fault, LockFlags, Mode, Site};
 use wit_shared::{Observer, Program, Room, Seat, Shared};
@@ -114,12 +114,12 @@ impl<R: Wait + Abort> Program<R> for Paired {
         let flags = LockFlags::RECURSABLE;
         let gate = CondGate::new(alloc).ok().expect(rt, "memory");
         match Rw::new(rt, &shared, &mut one, "rw", None, flags, gate) {
-            Ok(lock) => pair_sleeping(rt, &shared, &mut one, &mut two, &lock, site),
+            Ok(lock) => takes_a_pair(rt, &shared, &mut one, &mut two, &lock, site),
             Err((_, fault)) => panic!(rt; "no lock: {fault}"),
         }
         let gate = SpinGate::new(alloc).ok().expect(rt, "memory");
         match Rw::new(rt, &shared, &mut one, "rw", None, flags, gate) {
-            Ok(lock) => pair_spinning(rt, &shared, &mut one, &mut two, &lock, site),
+            Ok(lock) => takes_a_pair(rt, &shared, &mut one, &mut two, &lock, site),
             Err((_, fault)) => panic!(rt; "no lock: {fault}"),
         }
         closed_by_all(rt, shared, pair_of(rt, alloc, one, two))
@@ -128,27 +128,12 @@ impl<R: Wait + Abort> Program<R> for Paired {
     }
 }
 
-fn pair_sleeping<R: Wait + Abort, J: Room>(
+fn takes_a_pair<R: Wait + Abort, J: Room, W: Waiting>(
     rt: &R,
     shared: &Shared<J>,
     one: &mut Seat<J>,
     two: &mut Seat<J>,
-    lock: &Rw<J, CondGate>,
-    site: Site,
-) {
-    let first = granted(rt, lock.lock(rt, shared, one, Mode::Shared, site));
-    let second = granted(rt, lock.lock(rt, shared, two, Mode::Shared, site));
-    let (first, second) = lock.pair(first, second);
-    released(rt, lock.unlock(rt, shared, one, first));
-    released(rt, lock.unlock(rt, shared, two, second));
-}
-
-fn pair_spinning<R: Wait + Abort, J: Room>(
-    rt: &R,
-    shared: &Shared<J>,
-    one: &mut Seat<J>,
-    two: &mut Seat<J>,
-    lock: &Rw<J, SpinGate>,
+    lock: &Rw<J, WaitGate<W>>,
     site: Site,
 ) {
     let first = granted(rt, lock.lock(rt, shared, one, Mode::Shared, site));

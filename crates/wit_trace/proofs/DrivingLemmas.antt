@@ -14,15 +14,16 @@ use Rattle.wit_fields.specs.declared.errors.LineError.TheVariants.{Bad, Memory}
 use Rattle.wit_stream.specs.declared.machine.Step.{Step}
 use Rattle.wit_stream.specs.declared.machine.Step.TheVariants as step
 use Rattle.wit_stream.specs.declared.summary.Summary.{Summary}
-use Rattle.wit_trace.specs.Shown.{shown_of}
-use Rattle.wit_trace.specs.declared.view.View.{View}
-use Rattle.wit_trace.specs.Driven.{Drives, IsRemark, read_at}
-use Rattle.wit_trace.specs.Replays.{EndsFor, FailsFor, GoesAsDue, IsRead, IsWritten}
-use Rattle.wit_trace.specs.Replays.{Remarks, allowed, allowed_from, progress}
+use Rattle.wit_lines.specs.Shown.{shown_of}
+use Rattle.wit_lines.specs.declared.view.View.{View}
+use Rattle.wit_lines.specs.Driven.{Drives, IsRemark, read_at}
+use Rattle.wit_lines.specs.Replays.{EndsFor, FailsFor, GoesAsDue, IsRead, IsWritten}
+use Rattle.wit_lines.specs.Replays.{Remarks, allowed_from}
+use Rattle.wit_trace.specs.Replaying.{allowed, progress}
 use Rattle.wit_stream.specs.Machine.{Follows}
 use Rattle.wit_trace.specs.declared.replaying.Replaying.{Replaying}
-use Rattle.wit_trace.proofs.ReportLemmas.{ended_one, told_one}
-use Rattle.wit_trace.proofs.WrittenLemmas.{if_ok, line_ends, line_told}
+use Rattle.wit_lines.proofs.ReportLemmas.{ended_one, told_one}
+use Rattle.wit_lines.proofs.WrittenLemmas.{if_ok, line_ends, line_told}
 use Rattle.wit_grammar.specs.declared.parse.TheConstants.{LONGEST}
 
 -- an error that is passed on

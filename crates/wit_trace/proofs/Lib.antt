@@ -1,9 +1,2 @@
-pub mod CallLemmas
-pub mod CountLemmas
 pub mod DrivingLemmas
-pub mod KnownFiles
-pub mod ListedTypes
 pub mod ReplayLemmas
-pub mod ReportLemmas
-pub mod WorldLemmas
-pub mod WrittenLemmas

@@ -14,42 +14,14 @@ use Rattle.wit_model.specs.declared.lines.Cause.TheVariants as why
 use Rattle.wit_model.specs.Rules.Start.{start_fault}
 use Rattle.wit_model.specs.Trace.Output as output
 use Rattle.wit_stream.specs.Machine.{BreaksAt, first_of}
-use Rattle.wit_trace.specs.declared.view.View.{View}
-use Rattle.wit_trace.specs.Replays.{KeepsTotal, StandsAsDue, IsWritten, ShowsFrom, progress}
-use Rattle.wit_trace.specs.Replays.{progress_of, total}
-use Rattle.wit_stream.specs.Stream.{ReadingGoesOn, OutputFrom, ReadsToEnd, WritesLines}
-use Rattle.wit_trace.specs.declared.replaying.Replaying.{Replaying}
+use Rattle.wit_lines.specs.declared.view.View.{View}
+use Rattle.wit_lines.specs.Replays.{KeepsTotal, StandsAsDue, IsWritten, total}
+use Rattle.wit_trace.specs.Replaying.{progress_of}
 use Rattle.wit_trace.specs.declared.replaying.Progress.{Progress}
-use Rattle.wit_trace.specs.declared.replaying.Progress.TheVariants.{Unstarted}
 use Rattle.wit_stream.specs.declared.summary.Summary.{Summary}
-use Rattle.wit_trace.proofs.WrittenLemmas.{bad_written, refused, refused_at_end}
+use Rattle.wit_lines.proofs.LongLines.{begins_prelude, no_profile, starts-le}
+use Rattle.wit_lines.proofs.WrittenLemmas.{bad_written, refused, refused_at_end}
 use Rattle.wit_grammar.specs.declared.parse.TheConstants.{LONGEST}
-
--- the beginning of a long line decides whether it ends the prelude
-pub begins_prelude : (bytes line : List ℕ) → LONGEST < length bytes → StartsWith line bytes
-    → output.is_prelude line ≡ output.is_prelude bytes
-begins_prelude bytes line long starts =
-    ap (λ (w : List ℕ). bytes_eq w (codes "order ") || bytes_eq w (codes "bless "))
-    (sym (take-take 6 (length bytes) line (omega arith)) ∙ ap (take 6) starts)
-
--- and no long line names a profile
-pub no_profile : (n : ℕ) (line : List ℕ) → LONGEST < length line → output.is_profile n line ≡ false
-no_profile n line long =
-    rw (is_false (bytes_eq line (codes "profile all"))
-    (λ is. omega (arith, ap length ((bytes_eq-Decides line (codes "profile all")).0 is))))
-    (and_false (eqb n 2))
-  where
-    is_false : (b : Bool) → (b ≡ true → ⊥) → b ≡ false
-    is_false true h = absurd (h refl)
-    is_false false h = refl
-
-    and_false : (b : Bool) → (b && false) ≡ false
-    and_false true = refl
-    and_false false = refl
-
-pub starts-le : (bytes line : List ℕ) → StartsWith line bytes → length bytes ≤ length line
-starts-le bytes line starts = let e : length (take (length bytes) line) ≡ length bytes =
-    ap length starts in omega (arith, length-take {A = ℕ})
 
 begins_reached : (p : output.Progress) (n : ℕ) (bytes line : List ℕ) → LONGEST < length bytes
     → StartsWith line bytes → output.reached p n line ≡ output.reached p n bytes
@@ -167,51 +139,3 @@ broken_answer view m r n cause bytes (Some line) at (Ok a) reaches is texts sums
     refused_broken view (progress_of m) (progress_of r) n cause bytes line a.0.items a.1 reaches.0
     reaches.1 (texts ∙ ap (λ (l : output.BadLine). output.bad_text l.0 l.1) is)
     (sums ∙ ap (λ (l : output.BadLine). output.summed (progress_of r) (Some l)) is) circle
-
--- what the machine that replays allows
-abbrev replays : View → Replaying → ℕ → List ℕ → List ℕ → Summary → Type 0
-replays view =
-    OutputFrom (λ m n lines tail text summary. IsWritten view
-    (output.course_from (progress m) n lines tail) text summary)
-
--- it begins before the header
-abbrev begin : View → Replaying
-begin view = record { view = view; progress = Unstarted; against = 0 }
-
-shown_on : (view : View) (lines text : List ℕ)
-    → ReadingGoesOn (replays view) (begin view) lines text
-    → ReadingGoesOn (ShowsFrom view) output.Unstarted lines text
-shown_on view lines text goes = record { at = progress goes.at; on = goes.on }
-
--- the end of a replay, as the view shows it
-pub shown_end : {E : Type 0} (view : View) (r0 r w0 w : Option (List ℕ)) (answer : Result Summary E)
-    → IfOk answer (ReadsToEnd (replays view) (begin view) r0 r w0 w)
-    → IfOk answer (ReadsToEnd (ShowsFrom view) output.Unstarted r0 r w0 w)
-shown_end view r0 r w0 w (Err e) h = tt
-shown_end view r0 r w0 w (Ok summary) h = record {
-  lines = h.lines;
-  last = h.last;
-  told = h.told;
-  text = h.text;
-  whole = h.whole;
-  goes = shown_on view h.lines h.told h.goes;
-  one = h.one;
-  read = h.read;
-  is_last = h.is_last;
-  written = h.written;
-}
-
--- what stands after a failed look, as the view shows it
-pub shown_lines : (view : View) (r0 r w0 w : Option (List ℕ))
-    → WritesLines (replays view) (begin view) r0 r w0 w
-    → WritesLines (ShowsFrom view) output.Unstarted r0 r w0 w
-shown_lines view r0 r w0 w h = record {
-  lines = h.lines;
-  begun = h.begun;
-  text = h.text;
-  whole = h.whole;
-  plain = h.plain;
-  goes = shown_on view h.lines h.text h.goes;
-  read = h.read;
-  written = h.written;
-}

@@ -1,6 +1,2 @@
-pub mod Driven
-pub mod LineCalls
-pub mod Outputs
-pub mod Replays
-pub mod Shown
+pub mod Replaying
 pub mod Status

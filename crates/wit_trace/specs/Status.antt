@@ -1,8 +1,8 @@
 -- The exit status of a replay.
 use Rattle.std.specs.Prelude.{ℕ, Bool, false, nat_lt, is_some, if◌then◌else◌, Result, Ok, Err}
-use Rattle.wit_trace.specs.declared.view.View.{View}
-use Rattle.wit_trace.specs.declared.view.View.TheVariants.{Reports, Graph, Locks, Circle, State}
-use Rattle.wit_trace.specs.declared.view.View.TheVariants.{Clean}
+use Rattle.wit_lines.specs.declared.view.View.{View}
+use Rattle.wit_lines.specs.declared.view.View.TheVariants.{Reports, Graph, Locks, Circle, State}
+use Rattle.wit_lines.specs.declared.view.View.TheVariants.{Clean}
 use Rattle.wit_stream.specs.declared.summary.Summary.{Summary}
 use Rattle.wit_stream.specs.declared.summary.ReplayError.{ReplayError}
 

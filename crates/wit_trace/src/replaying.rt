@@ -2,36 +2,29 @@
 
 ghost use Rattle.std.specs.Prelude.{◌≡◌, ◌⊎◌, ◌<◌, ℕ, IsTrue, IfOk, OnErr};
 ghost use Rattle.wit_model.specs.Trace.Output.{Unstarted};
-ghost use Rattle.wit_trace.specs.Outputs.{some_output};
-ghost use Rattle.wit_trace.specs.Replays.{allowed, progress, reports_told, IsRead, MayReadAt};
-ghost use Rattle.wit_trace.specs.Replays.{ShowsTrace, ShowsFrom};
+ghost use Rattle.wit_lines.specs.Outputs.{some_output};
+ghost use Rattle.wit_lines.specs.Replays.{reports_told, IsRead, MayReadAt};
+ghost use Rattle.wit_lines.specs.Replays.{ShowsTrace, ShowsFrom};
+ghost use Rattle.wit_trace.specs.Replaying.{allowed, progress};
 ghost use Rattle.wit_stream.specs.Stream.{IsSpent, ReadsToEnd, WritesFront, WritesLines};
 ghost use Rattle.wit_stream.specs.Stream.{WritesOutput};
 
-mod bad_lines;
-pub mod calls;
 mod driven;
 mod driving;
 mod endings;
 mod entering;
-pub mod frequent_lines;
-pub mod line_calls;
-pub mod line_reader;
-pub mod prelude;
+mod opening;
 mod reaching;
 mod views;
 
-use crate::view::View;
-pub use bad_lines::bad_text;
 use driven::Driven;
 use driving::Driving;
-use frequent_lines::{read_line, read_step_line};
-use prelude::Prelude;
 use std::alloc::{AllocError, Global};
 use std::io::{BufRead, Write};
 use views::show;
 use wit_core::Verifier;
 use wit_grammar::{LineError, begin_line};
+use wit_lines::{Prelude, View, read_line, read_step_line};
 use wit_model::Cause;
 use wit_state::ends_hindered;
 use wit_stream::{Failures, Machine, Pace, Ports, ReplayError, Step, Summary, run};
@@ -191,7 +184,7 @@ impl Replaying {
     fn mark(&mut self, number: u64)
         ensures { self.new ≡ record self.old { against = self.new.against } }
     {
-        if self.view.tells_hindrance() && self.against == 0 && self.progress.is_hindered() {
+        if tells_hindrance(self.view) && self.against == 0 && self.progress.is_hindered() {
             self.against = number;
         }
     }
@@ -207,6 +200,14 @@ impl Progress {
             Progress::Reading(driving) => ends_hindered(driving.driven.verifier()),
             Progress::Stepping(driving) => ends_hindered(driving.driven.verifier()),
         }
+    }
+}
+
+// Whether a view tells which line keeps the log from being clean.
+fn tells_hindrance(view: View) -> bool {
+    match view {
+        View::Reports | View::Graph | View::Locks | View::Circle => false,
+        View::State | View::Clean => true,
     }
 }
 

@@ -3,7 +3,7 @@
 ghost use Rattle.std.specs.Prelude.{◌≡◌};
 ghost use Rattle.wit_trace.specs.Status.{exit_status, is_reported};
 
-use crate::view::View;
+use wit_lines::View;
 use wit_stream::{ReplayError, Summary};
 
 /// The exit status where the view shows nothing to act upon: no report of `Reports` and `State`, no

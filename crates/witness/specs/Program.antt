@@ -20,10 +20,10 @@ use Rattle.wit_kernel.specs.declared.importing.Tracer.TheVariants as tracer
 use Rattle.wit_kernel.specs.Outputs.{Imports as ImportsTraced, settings}
 use Rattle.wit_command.specs.declared.command.Source.{Source}
 use Rattle.wit_command.specs.declared.command.Source.TheVariants.{Ftrace, Lttng, Plain}
-use Rattle.wit_trace.specs.Replays.{ShowsTrace, ShowsFrom}
+use Rattle.wit_lines.specs.Replays.{ShowsTrace, ShowsFrom}
 use Rattle.wit_trace.specs.Status.{exit_status}
-use Rattle.wit_trace.specs.declared.view.View.{View}
-use Rattle.wit_trace.specs.declared.view.View.TheVariants.{Graph, Reports}
+use Rattle.wit_lines.specs.declared.view.View.{View}
+use Rattle.wit_lines.specs.declared.view.View.TheVariants.{Graph, Reports}
 use Rattle.wit_stream.specs.Stream.{WritesOutput, WritesFront, WritesLines}
 use Rattle.wit_stream.specs.declared.summary.Summary.{Summary}
 use Rattle.witness.specs.declared.program.Ended.{Ended}

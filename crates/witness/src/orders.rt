@@ -5,7 +5,7 @@ ghost use Rattle.wit_against.specs.Outputs.{Judges};
 ghost use Rattle.wit_merge.specs.Outputs.{ShowsOrders};
 ghost use Rattle.wit_stream.specs.Stream.{WritesOutput};
 ghost use Rattle.wit_stream.specs.declared.summary.ReplayError.TheVariants as ReplayError;
-ghost use Rattle.wit_trace.specs.declared.view.View.TheVariants.{Reports};
+ghost use Rattle.wit_lines.specs.declared.view.View.TheVariants.{Reports};
 ghost use Rattle.witness.specs.Program.{IsOutputCut, IsWrittenAndExits, TellsJudged, TellsMerged};
 
 use crate::program::{Ended, READ_AHEAD};

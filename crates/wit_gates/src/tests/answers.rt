@@ -5,9 +5,9 @@ ghost use Rattle.wit_model.specs.declared.locks.Mode.TheVariants.{Shared, Exclus
 ghost use Rattle.wit_gates.specs.Tickets.{pass};
 
 use crate::tests::{is_shut, tries};
-use crate::{CondGate, Gate, SpinGate, Ticket, Turn, Word};
+use crate::{CondGate, Gate, InTurn, SpinGate, Ticket, Word};
 use std::process::Abort;
-use std::sync::{Mutex, MutexGuard, Wait};
+use std::sync::{Mutex, Wait};
 use std::test::Fail;
 use wit_model::Mode;
 
@@ -53,7 +53,7 @@ fn gates_let_in_whom_they_should(rt: HostRuntime) -> Result<(), Fail> {
 }
 
 /// A share of a word.
-fn share_of<R: Wait + Abort>(rt: &R, word: &Word, turn: &MutexGuard<'_, Turn>) -> Ticket
+fn share_of<R: Wait + Abort>(rt: &R, word: &Word, turn: &InTurn<'_>) -> Ticket
     ensures { result ≡ pass word.now Shared }
 {
     match word.try_share(rt, turn) {
@@ -63,7 +63,7 @@ fn share_of<R: Wait + Abort>(rt: &R, word: &Word, turn: &MutexGuard<'_, Turn>) -
 }
 
 /// The exclusive hold of a word.
-fn hold_of<R: Wait + Abort>(rt: &R, word: &Word, turn: &MutexGuard<'_, Turn>) -> Ticket
+fn hold_of<R: Wait + Abort>(rt: &R, word: &Word, turn: &InTurn<'_>) -> Ticket
     ensures { result ≡ pass word.now Exclusive }
 {
     match word.try_exclusive(turn) {
@@ -82,7 +82,7 @@ fn is_seen(word: &Word, free: bool, alone: bool) -> bool {
 fn words_tell_what_is_out(rt: HostRuntime) -> Result<(), Fail> {
     let (word, turn) = Word::new(rt.alloc())?;
     let turns = Mutex::new(turn);
-    let turn = turns.lock(&rt);
+    let turn = InTurn::Locked(turns.lock(&rt));
     assert!(rt; is_seen(&word, true, false));
     let alone = hold_of(&rt, &word, &turn);
     assert!(rt; is_seen(&word, false, true));
@@ -101,8 +101,7 @@ fn words_tell_what_is_out(rt: HostRuntime) -> Result<(), Fail> {
         "an abandoned ticket counts as still out"
     );
     let (word, turn) = Word::new(rt.alloc())?;
-    let turns = Mutex::new(turn);
-    let alone = hold_of(&rt, &word, &turns.lock(&rt));
+    let alone = hold_of(&rt, &word, &InTurn::Open(&turn));
     assert_eq!(rt; word.into_word_with(alone), 4_294_967_295);
     Ok(())
 }

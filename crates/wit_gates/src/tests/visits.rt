@@ -1,6 +1,6 @@
 //! What threads do at a gate, and how they learn of one another.
 
-use crate::{CondGate, Gate, SpinGate};
+use crate::{Gate, WaitGate, Waiting};
 use std::rt::Clock;
 use std::sync::Wait;
 use std::sync::atomic::{AtomicBool, AtomicU64, Ordering};
@@ -55,32 +55,7 @@ pub(crate) trait Visited {
     fn meet<R: Wait + Clock>(&self, rt: &R, inside: &AtomicU64, count: u64) -> bool;
 }
 
-impl Visited for CondGate {
-    fn visit_alone<R: Wait>(&self, rt: &R, visits: &Visits) -> bool {
-        match self.enter(rt, Mode::Exclusive) {
-            Ok(ticket) => {
-                let alone = visits.visit();
-                self.release(rt, Mode::Exclusive, ticket);
-                alone
-            }
-            Err(_met) => false,
-        }
-    }
-
-    fn meet<R: Wait + Clock>(&self, rt: &R, inside: &AtomicU64, count: u64) -> bool {
-        match self.enter(rt, Mode::Shared) {
-            Ok(share) => {
-                inside.fetch_add(1, Ordering::SeqCst);
-                let met = comes_about(rt, inside, count);
-                self.release(rt, Mode::Shared, share);
-                met
-            }
-            Err(_met) => false,
-        }
-    }
-}
-
-impl Visited for SpinGate {
+impl<W: Waiting> Visited for WaitGate<W> {
     fn visit_alone<R: Wait>(&self, rt: &R, visits: &Visits) -> bool {
         match self.enter(rt, Mode::Exclusive) {
             Ok(ticket) => {

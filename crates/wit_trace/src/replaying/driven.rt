@@ -8,8 +8,8 @@ ghost use Rattle.wit_model.specs.Rules.State.{Story, state_of};
 ghost use Rattle.wit_model.specs.Trace.LineCalls as model;
 ghost use Rattle.wit_model.specs.Trace.Output as output;
 ghost use Rattle.wit_model.specs.World.Shown.{WaitsIn};
-ghost use Rattle.wit_trace.specs.Driven.{Drives, NumbersLine, Answers, Does, drives_verifier, drives_world};
-ghost use Rattle.wit_trace.specs.LineCalls.{file_named};
+ghost use Rattle.wit_lines.specs.Driven.{Drives, NumbersLine, Answers, Does, drives_verifier, drives_world};
+ghost use Rattle.wit_lines.specs.LineCalls.{file_named};
 
 use wit_core::Verifier;
 use wit_grammar::LineError;

@@ -7,18 +7,18 @@ ghost use Rattle.wit_model.specs.Trace.LineCalls.{call_of};
 ghost use Rattle.wit_grammar.specs.Lines.{Begins, as_line};
 ghost use Rattle.wit_model.specs.declared.lines.Line.{Line};
 ghost use Rattle.wit_model.specs.Trace.Output.{read_as};
-ghost use Rattle.wit_trace.specs.LineCalls.{Keeps, as_call, file_named};
-ghost use Rattle.wit_trace.specs.Driven.{NumbersLine};
-ghost use Rattle.wit_trace.specs.Replays.{GoesAsDue, IsRead, MayReadAt, reports_told};
+ghost use Rattle.wit_lines.specs.LineCalls.{Keeps, as_call, file_named};
+ghost use Rattle.wit_lines.specs.Driven.{NumbersLine};
+ghost use Rattle.wit_lines.specs.Replays.{GoesAsDue, IsRead, MayReadAt, reports_told};
 
-use crate::replaying::calls::{assertion, remark, text_of_reply, warning};
 use crate::replaying::driven::Driven;
-use crate::replaying::line_calls::{LineCall, call_of, file_of, file_on_lock, lock_call};
-use crate::replaying::line_reader::LineReader;
 use crate::replaying::views::show;
-use crate::view::View;
 use std::alloc::{AllocError, Global};
 use wit_grammar::{Begun, LineError, finish_line};
+use wit_lines::{
+    LineCall, LineReader, View, assertion, call_of, file_of, file_on_lock, lock_call, remark,
+    text_of_reply, warning,
+};
 use wit_model::{Call, FileNo, Line, LockLine, LockNo, RawStep, SeatNo};
 use wit_stream::Step;
 

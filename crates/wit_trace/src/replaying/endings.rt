@@ -5,19 +5,19 @@ ghost use Rattle.wit_model.specs.declared.lines.Cause.{Cause};
 ghost use Rattle.wit_model.specs.Trace.Output.{bad_text, ends, summed};
 ghost use Rattle.wit_model.specs.Trace.Output as output;
 ghost use Rattle.wit_fields.specs.declared.errors.LineError.TheVariants.{Bad};
-ghost use Rattle.wit_trace.specs.declared.view.View.{View};
-ghost use Rattle.wit_trace.specs.Replays.{progress_of, reports_told, total, EndsFor, IsWritten};
+ghost use Rattle.wit_lines.specs.declared.view.View.{View};
+ghost use Rattle.wit_lines.specs.Replays.{reports_told, total, EndsFor, IsWritten};
+ghost use Rattle.wit_trace.specs.Replaying.{progress_of};
 
 use crate::replaying::Progress;
-use crate::replaying::bad_lines::bad_text;
 use crate::replaying::driven::Driven;
 use crate::replaying::driving::Driving;
 use crate::replaying::views::last_text;
-use crate::view::View;
 use std::alloc::{AllocError, Global};
 use wit_grammar::LineError;
+use wit_lines::View;
 use wit_model::{Boxed, Cause};
-use wit_stream::{Step, Summary};
+use wit_stream::{Step, Summary, bad_text};
 
 impl Progress {
     /// What the replay found so far.

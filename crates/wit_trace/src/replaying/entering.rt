@@ -4,12 +4,13 @@ ghost use Rattle.std.specs.Prelude.{◌≡◌, ◌<◌, ℕ, Option};
 ghost use Rattle.wit_model.specs.declared.lines.Line.{Line};
 ghost use Rattle.wit_model.specs.Trace.Output.{Unstarted, entered, read_as};
 ghost use Rattle.wit_grammar.specs.Lines.{Begins};
-ghost use Rattle.wit_trace.specs.Replays.{progress_of, reports_told, GoesAsDue};
+ghost use Rattle.wit_lines.specs.Replays.{reports_told, GoesAsDue};
+ghost use Rattle.wit_trace.specs.Replaying.{progress_of};
 
 use crate::replaying::Progress;
-use crate::replaying::prelude::{add_line, new_prelude};
 use std::alloc::Global;
 use wit_grammar::{Begun, LineError, finish_line};
+use wit_lines::{add_line, new_prelude};
 use wit_model::{Cause, Limits, Line};
 
 impl Progress {

@@ -3,12 +3,14 @@
 
 ghost use Rattle.std.specs.Prelude.{◌≡◌, ℕ, List, true, IfOk};
 ghost use Rattle.wit_model.specs.Trace.Output.{reached};
-ghost use Rattle.wit_trace.specs.Replays.{ends_prelude, progress_of, reports_told, StandsAsDue};
+ghost use Rattle.wit_lines.specs.Replays.{ends_prelude, reports_told, StandsAsDue};
+ghost use Rattle.wit_trace.specs.Replaying.{progress_of};
 
 use crate::replaying::Progress;
-use crate::replaying::prelude::{is_prelude, open};
+use crate::replaying::opening::open;
 use std::alloc::{AllocError, Global};
 use std::mem;
+use wit_lines::is_prelude;
 use wit_model::Cause;
 
 impl Progress {

@@ -2,12 +2,12 @@
 
 ghost use Rattle.std.specs.Prelude.{◌≡◌, [], IfOk, IfErr};
 ghost use Rattle.wit_model.specs.declared.faults.Fault.TheVariants.{OutOfMemory};
-ghost use Rattle.wit_trace.specs.Shown.{shown_of, IsShownAtEnd};
-ghost use Rattle.wit_trace.specs.declared.view.View.TheVariants.{Circle, Clean, State};
+ghost use Rattle.wit_lines.specs.Shown.{shown_of, IsShownAtEnd};
+ghost use Rattle.wit_lines.specs.declared.view.View.TheVariants.{Circle, Clean, State};
 
 use crate::replaying::driven::Driven;
-use crate::view::View;
 use std::alloc::Global;
+use wit_lines::View;
 use wit_model::Fault;
 use wit_report::{all_locks, circle_text, graph};
 use wit_state::{clean_text, is_clean_so_far, state_text};

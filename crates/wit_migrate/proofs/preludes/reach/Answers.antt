@@ -2,7 +2,7 @@ use Rattle.std.proofs.Common.{◌-◌, take, ap, sym, subst, ◌∙◌}
 use Rattle.wit_model.specs.Rules.Start.{start_fault}
 use Rattle.wit_model.specs.Trace.Moving.{with_feeds}
 use Rattle.wit_migrate.specs.Migrates.{IsRefusedAt, kept_bytes, moved_to}
-use Rattle.wit_trace.specs.Replays.{IsVerifierOf, prelude_of}
+use Rattle.wit_lines.specs.Replays.{IsVerifierOf, prelude_of}
 use Rattle.wit_migrate.proofs.MigrateLemmas.{refuses}
 use Rattle.wit_migrate.proofs.preludes.reach.Goals as goal
 

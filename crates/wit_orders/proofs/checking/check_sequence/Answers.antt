@@ -1,8 +1,10 @@
 use Rattle.std.proofs.Common.{List, ℕ, ap}
 use Rattle.std.specs.Global.{Vec}
+use Rattle.wit_stream.proofs.Runs.{run-end, run-lines}
 use Rattle.wit_orders.specs.Answers.{Seen, nothing_seen}
 use Rattle.wit_orders.specs.Sequence.{written}
-use Rattle.wit_orders.proofs.Runs.{run-end, run-lines}
+use Rattle.wit_orders.specs.Checking.{seen}
+use Rattle.wit_orders.specs.Outputs.{AnswersFrom}
 use Rattle.wit_orders.proofs.Silent.{silent}
 use Rattle.wit_orders.proofs.checking.check_sequence.Goals as goal
 
@@ -12,9 +14,9 @@ typed keys = record { types = written keys; pairs = 0 }
 
 pub returns-clause-taken : goal.returns-clause-taken
 returns-clause-taken g c =
-    run-end _ nothing_seen (ap typed c.new.ensures.empty) _ _ _ _ _ c.run.ensures.taken
+    run-end seen AnswersFrom _ nothing_seen (ap typed c.new.ensures.empty) _ _ _ _ _ c.run.ensures.taken
 
 pub returns-clause-silent : goal.returns-clause-silent
 returns-clause-silent g c = λ is.
     silent nothing_seen _ _ _ _
-    (run-lines _ nothing_seen (ap typed c.new.ensures.empty) _ _ _ _ (c.run.ensures.told is))
+    (run-lines seen AnswersFrom _ nothing_seen (ap typed c.new.ensures.empty) _ _ _ _ (c.run.ensures.told is))

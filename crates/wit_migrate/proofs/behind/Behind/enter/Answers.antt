@@ -1,6 +1,6 @@
 use Rattle.std.proofs.Common.{subst, sym}
 use Rattle.wit_model.specs.Trace.Output.{call_of}
-use Rattle.wit_trace.specs.LineCalls.{as_call}
+use Rattle.wit_lines.specs.LineCalls.{as_call}
 use Rattle.wit_migrate.specs.Migrates.{IsLineOf, standing}
 use Rattle.wit_migrate.proofs.StepLineLemmas.{read_call}
 use Rattle.wit_migrate.proofs.NumberedLemmas.{line-numbered, not-numbered}

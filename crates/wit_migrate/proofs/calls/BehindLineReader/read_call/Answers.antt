@@ -2,8 +2,8 @@ use Rattle.std.proofs.Common.{ℕ, Result, Ok, Err, subst, sym}
 use Rattle.std.specs.Global.{Vec}
 use Rattle.wit_fields.specs.declared.errors.LineError.{LineError}
 use Rattle.wit_model.specs.Trace.Output.{Logs, call_of}
-use Rattle.wit_trace.specs.Driven.{named_again}
-use Rattle.wit_trace.specs.LineCalls.{file_named}
+use Rattle.wit_lines.specs.Driven.{named_again}
+use Rattle.wit_lines.specs.LineCalls.{file_named}
 use Rattle.wit_migrate.specs.Migrates.{IsLineOf, standing}
 use Rattle.wit_migrate.proofs.BehindLemmas.{behind-fails, behind-goes}
 use Rattle.wit_migrate.proofs.MigrateLemmas.{line-moves}

@@ -1,8 +1,9 @@
 use Rattle.std.proofs.Common.{◌≡◌, sym, ◌∙◌}
 use Rattle.wit_model.specs.Trace.Output.{reached}
-use Rattle.wit_trace.specs.Replays.{progress_of, reports_told, StandsAsDue}
-use Rattle.wit_trace.proofs.WrittenLemmas.{if_ok}
-use Rattle.wit_trace.proofs.CountLemmas.{reaches_same}
+use Rattle.wit_lines.specs.Replays.{reports_told, StandsAsDue}
+use Rattle.wit_trace.specs.Replaying.{progress_of}
+use Rattle.wit_lines.proofs.WrittenLemmas.{if_ok}
+use Rattle.wit_lines.proofs.CountLemmas.{reaches_same}
 use Rattle.wit_trace.proofs.replaying.Progress.reach.Goals as goal
 
 pub returns-then-ends_prelude-clause-counted : goal.returns-then-ends_prelude-clause-counted

@@ -1,11 +1,12 @@
 use Rattle.std.proofs.Common.{Err, ap, subst, ◌∙◌, arith}
 use Rattle.wit_model.specs.Trace.Output.{reached, BadLine}
 use Rattle.wit_model.specs.Trace.Reading.{line_of}
-use Rattle.wit_trace.specs.Replays.{progress_of, EndsFor, IsRead, StandsAsDue}
+use Rattle.wit_lines.specs.Replays.{EndsFor, IsRead, StandsAsDue}
+use Rattle.wit_trace.specs.Replaying.{progress_of}
 use Rattle.wit_fields.specs.declared.errors.LineError.TheVariants.{Bad}
-use Rattle.wit_trace.proofs.ReportLemmas.{bad_one, ended_one, told_one}
-use Rattle.wit_trace.proofs.WrittenLemmas.{if_ok, line_told, line_ends, refused_step}
-use Rattle.wit_trace.proofs.WrittenLemmas.{short_line}
+use Rattle.wit_lines.proofs.ReportLemmas.{bad_one, ended_one, told_one}
+use Rattle.wit_lines.proofs.WrittenLemmas.{if_ok, line_told, line_ends, refused_step}
+use Rattle.wit_lines.proofs.WrittenLemmas.{short_line}
 use Rattle.wit_trace.proofs.replaying.Replaying.opening_line.Goals as goal
 
 pub returns-in-Some-clause-read : goal.returns-in-Some-clause-read

@@ -1,8 +1,9 @@
 use Rattle.std.proofs.Common.{[], subst}
 use Rattle.wit_model.specs.Trace.Output.{reached, BadLine}
-use Rattle.wit_trace.specs.Replays.{progress_of, StandsAsDue}
+use Rattle.wit_lines.specs.Replays.{StandsAsDue}
+use Rattle.wit_trace.specs.Replaying.{progress_of}
 use Rattle.wit_trace.proofs.DrivingLemmas.{ended_reached}
-use Rattle.wit_trace.proofs.WrittenLemmas.{refused_end}
+use Rattle.wit_lines.proofs.WrittenLemmas.{refused_end}
 use Rattle.wit_trace.proofs.replaying.ReplayingMachine.end.Goals as goal
 
 pub returns-in-Some : goal.returns-in-Some

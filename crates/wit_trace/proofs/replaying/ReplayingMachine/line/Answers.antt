@@ -1,5 +1,5 @@
 use Rattle.std.proofs.Common.{Ok, refl}
-use Rattle.wit_trace.specs.Replays.{progress}
+use Rattle.wit_trace.specs.Replaying.{progress}
 use Rattle.wit_trace.proofs.DrivingLemmas.{shown_step}
 use Rattle.wit_trace.proofs.replaying.ReplayingMachine.line.Goals as goal
 

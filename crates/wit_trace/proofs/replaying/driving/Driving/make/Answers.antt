@@ -2,7 +2,7 @@ use Rattle.std.proofs.Common.{subst}
 use Rattle.wit_model.specs.Rules.State.{Story}
 use Rattle.wit_model.specs.Trace.LineCalls as model
 use Rattle.wit_model.specs.Trace.Output.{calls}
-use Rattle.wit_trace.specs.Replays.{Remarks}
+use Rattle.wit_lines.specs.Replays.{Remarks}
 use Rattle.wit_trace.proofs.DrivingLemmas.{remarked}
 use Rattle.wit_trace.proofs.replaying.driving.Driving.make.Goals as goal
 

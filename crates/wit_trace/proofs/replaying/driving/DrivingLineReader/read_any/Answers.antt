@@ -1,8 +1,8 @@
 use Rattle.std.proofs.Common.{Err, ap, ◌∙◌, arith}
 use Rattle.wit_model.specs.Trace.Reading.{line_of}
 use Rattle.wit_trace.proofs.DrivingLemmas.{read_ends, read_told}
-use Rattle.wit_trace.proofs.ReportLemmas.{bad_one}
-use Rattle.wit_trace.proofs.WrittenLemmas.{short_line}
+use Rattle.wit_lines.proofs.ReportLemmas.{bad_one}
+use Rattle.wit_lines.proofs.WrittenLemmas.{short_line}
 use Rattle.wit_trace.proofs.replaying.driving.DrivingLineReader.read_any.Goals as goal
 
 pub returns-in-Ok : goal.returns-in-Ok

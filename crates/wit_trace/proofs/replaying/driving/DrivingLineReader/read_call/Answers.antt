@@ -1,6 +1,6 @@
 use Rattle.std.proofs.Common.{◌∙◌, ap, sym, subst}
 use Rattle.wit_model.specs.Trace.LineCalls.{call_of}
-use Rattle.wit_trace.specs.Replays.{GoesAsDue}
+use Rattle.wit_lines.specs.Replays.{GoesAsDue}
 use Rattle.wit_trace.proofs.DrivingLemmas.{call_read, read_ends, read_told}
 use Rattle.wit_trace.proofs.replaying.driving.DrivingLineReader.read_call.Goals as goal
 

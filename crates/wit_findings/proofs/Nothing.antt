@@ -1,0 +1,31 @@
+-- What is written where nothing was read.
+use Rattle.std.proofs.Common.{◌≡◌, ℕ, List, [], Option, Some, None, Result, Ok, Err, OnErr, refl}
+use Rattle.std.proofs.KnownBytes.{Appends-nil}
+use Rattle.wit_stream.specs.Stream.{IsInput, WritesFront}
+use Rattle.wit_stream.specs.Text.{text_of}
+use Rattle.wit_findings.specs.Existing.{some_findings}
+use Rattle.wit_findings.specs.Findings.{Finds}
+use Rattle.wit_findings.specs.Runs.{nothing_told}
+
+input-of : (read : Option (List ℕ)) → (input : List ℕ) × IsInput read input
+input-of None = ([], tt)
+input-of (Some bytes) = (bytes, refl)
+
+-- nothing was written
+nothing-written : (read written : Option (List ℕ)) → WritesFront Finds read written written
+nothing-written read written =
+    let input = input-of read in
+    let some = some_findings nothing_told 1 (text_of input.0).lines (text_of input.0).tail in
+    record {
+      input = input.0;
+      text = some.0;
+      summary = some.1.0;
+      is_input = input.1;
+      is_output = some.1.1;
+      written = (0, Appends-nil written);
+    }
+
+pub nothing-where-refused : {X E : Type 0} (answer : Result X E) (read written : Option (List ℕ))
+    → OnErr answer (WritesFront Finds read written written)
+nothing-where-refused (Ok x) read written = tt
+nothing-where-refused (Err e) read written = nothing-written read written
