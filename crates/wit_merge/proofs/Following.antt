@@ -11,8 +11,9 @@ use Rattle.wit_grammar.specs.declared.parse.TheConstants.{LONGEST}
 use Rattle.wit_stream.specs.declared.summary.Summary.{Summary}
 use Rattle.wit_stream.specs.Machine.{BreaksAt}
 use Rattle.wit_merge.specs.declared.flaws.Flaw.{Flaw}
-use Rattle.wit_merge.specs.declared.flaws.Flaw.TheVariants as flaw
+use Rattle.wit_merge.specs.declared.flaws.Flaw.TheVariants as wrong
 use Rattle.wit_merge.specs.declared.machine.Shown.{Shown}
+use Rattle.wit_merge.specs.Flaws.{flaw_of}
 use Rattle.wit_merge.specs.Lines.{Merged, after_line}
 use Rattle.wit_merge.specs.Outputs.{AfterLine, AfterTaken, AtEnd, Refuses, ShowsLines}
 
@@ -56,15 +57,11 @@ longer bytes line long starts =
 
 tail-broken : (by : Shown) (old : Merged) (n : ℕ) (flaw : Flaw) (text : List ℕ) (summary : Summary)
     (tail : List ℕ) → 0 < length tail
-    → cond (nat_lt LONGEST (length tail)) flaw.Long flaw.Cut ≡ flaw
+    → cond (nat_lt LONGEST (length tail)) wrong.Long wrong.Cut ≡ flaw
     → Refuses n flaw text summary → AtEnd by old n tail text summary
 tail-broken by old n flaw text summary [] some is refuses = absurd (omega (arith, some))
 tail-broken by old n flaw text summary (b ∷ tail) some is refuses =
     subst (λ c. Refuses n c text summary) (sym is) refuses
-
-abbrev flaw_of : Cause → Flaw
-flaw_of why.Long = flaw.Long
-flaw_of _ = flaw.Cut
 
 pub breaks : (by : Shown) (old : Merged) (n : ℕ) (cause : Cause) (bytes : List ℕ) (text : List ℕ)
     (summary : Summary) → Refuses n (flaw_of cause) text summary
@@ -74,16 +71,16 @@ breaks by old n why.Long bytes text summary refuses [] tail at =
     let long = longer bytes tail at.0 at.1 in
     let same : min (length bytes) (length tail) ≡ length bytes =
     sym (length-take (length bytes) tail) ∙ ap length at.1 in
-    tail-broken by old n flaw.Long text summary tail (omega (arith, at.0, same))
-    (ap (λ b. cond b flaw.Long flaw.Cut) long) refuses
+    tail-broken by old n wrong.Long text summary tail (omega (arith, at.0, same))
+    (ap (λ b. cond b wrong.Long wrong.Cut) long) refuses
 breaks by old n why.Long bytes text summary refuses (line ∷ lines) tail at =
     subst (λ b. AfterLine old n b line (λ next. ShowsLines by next (n + 1) lines tail) text summary)
     (sym (longer bytes line at.0 at.1)) refuses
 breaks by old n why.Cut bytes text summary refuses lines tail at =
     subst (λ (ls : List (List ℕ)). ShowsLines by old n ls tail text summary) (sym at.2)
     (subst (λ t. AtEnd by old n t text summary) (sym at.3)
-    (tail-broken by old n flaw.Cut text summary bytes at.0
-    (ap (λ b. cond b flaw.Long flaw.Cut) (not-longer (length bytes) at.1)) refuses))
+    (tail-broken by old n wrong.Cut text summary bytes at.0
+    (ap (λ b. cond b wrong.Long wrong.Cut) (not-longer (length bytes) at.1)) refuses))
 breaks by old n why.Syntax bytes text summary refuses lines tail at = absurd at
 breaks by old n why.Version bytes text summary refuses lines tail at = absurd at
 breaks by old n why.Limit bytes text summary refuses lines tail at = absurd at

@@ -5,7 +5,7 @@ use Rattle.std.proofs.lemmas.List.Sorted.{IsPermutation-refl}
 use Rattle.wit_grammar.specs.declared.parse.TheConstants.{LONGEST}
 use Rattle.wit_stream.specs.declared.summary.Summary.{Summary}
 use Rattle.wit_merge.specs.declared.flaws.Flaw.{Flaw}
-use Rattle.wit_merge.specs.declared.flaws.Flaw.TheVariants as flaw
+use Rattle.wit_merge.specs.declared.flaws.Flaw.TheVariants as wrong
 use Rattle.wit_merge.specs.declared.machine.Shown.{Shown}
 use Rattle.wit_merge.specs.declared.machine.Shown.TheVariants as shown
 use Rattle.wit_merge.specs.Flaws.{cause_of}
@@ -41,7 +41,7 @@ tells by m =
 abbrev at_end : (by : Shown) (m : Merged) (n : ℕ) (tail : List ℕ) → Some_text (AtEnd by m n tail)
 at_end by m n [] = tells by m
 at_end by m n (b ∷ tail) =
-    refused n (if nat_lt LONGEST (length (b ∷ tail)) then flaw.Long else flaw.Cut)
+    refused n (if nat_lt LONGEST (length (b ∷ tail)) then wrong.Long else wrong.Cut)
 
 abbrev after_taken : (n : ℕ) (taken : Result Merged Flaw)
     (next : Merged → List ℕ → Summary → Type 0) → ((m : Merged) → Some_text (next m))
@@ -52,7 +52,7 @@ after_taken n (Err flaw) next rest = refused n flaw
 abbrev after_any : (m : Merged) (n : ℕ) (is_long : Bool) (line : List ℕ)
     (next : Merged → List ℕ → Summary → Type 0) → ((m : Merged) → Some_text (next m))
     → Some_text (AfterLine m n is_long line next)
-after_any m n true line next rest = refused n flaw.Long
+after_any m n true line next rest = refused n wrong.Long
 after_any m n false line next rest = after_taken n (after_line m line) next rest
 
 abbrev pub some_shown : (by : Shown) (lines : List (List ℕ)) (m : Merged) (n : ℕ) (tail : List ℕ)

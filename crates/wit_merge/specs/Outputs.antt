@@ -8,7 +8,7 @@ use Rattle.wit_grammar.specs.declared.parse.TheConstants.{LONGEST}
 use Rattle.wit_stream.specs.declared.summary.Summary.{Summary}
 use Rattle.wit_stream.specs.Text.{text_of}
 use Rattle.wit_merge.specs.declared.flaws.Flaw.{Flaw}
-use Rattle.wit_merge.specs.declared.flaws.Flaw.TheVariants as flaw
+use Rattle.wit_merge.specs.declared.flaws.Flaw.TheVariants as wrong
 use Rattle.wit_merge.specs.declared.machine.Shown.{Shown}
 use Rattle.wit_merge.specs.declared.machine.Shown.TheVariants as shown
 use Rattle.wit_merge.specs.Flaws.{cause_of, flaw_text}
@@ -48,7 +48,7 @@ pub record Tells (by : Shown) (m : Merged) (text : List ℕ) (summary : Summary)
 abbrev pub AtEnd : Shown → Merged → ℕ → List ℕ → List ℕ → Summary → Type 0
 AtEnd by m n [] text summary = Tells by m text summary
 AtEnd by m n (b ∷ tail) text summary =
-    Refuses n (if nat_lt LONGEST (length (b ∷ tail)) then flaw.Long else flaw.Cut) text summary
+    Refuses n (if nat_lt LONGEST (length (b ∷ tail)) then wrong.Long else wrong.Cut) text summary
 
 -- after a line that is taken so
 abbrev pub AfterTaken : ℕ → Result Merged Flaw → (Merged → List ℕ → Summary → Type 0)
@@ -59,7 +59,7 @@ AfterTaken n (Err flaw) next text summary = Refuses n flaw text summary
 -- after a line, which may be too long
 abbrev pub AfterLine : Merged → ℕ → Bool → List ℕ → (Merged → List ℕ → Summary → Type 0)
     → List ℕ → Summary → Type 0
-AfterLine m n true line next text summary = Refuses n flaw.Long text summary
+AfterLine m n true line next text summary = Refuses n wrong.Long text summary
 AfterLine m n false line next text summary = AfterTaken n (after_line m line) next text summary
 
 -- from here on, where the next line has number n, these whole lines and this unfinished one are to

@@ -9,7 +9,7 @@ use Rattle.wit_orders.specs.declared.reading.OrderLine.{OrderLine}
 use Rattle.wit_orders.specs.declared.reading.OrderLine.TheVariants.{Listed, Pair}
 use Rattle.wit_orders.specs.Reading.{order_line, type_text}
 use Rattle.wit_merge.specs.declared.flaws.Flaw.{Flaw}
-use Rattle.wit_merge.specs.declared.flaws.Flaw.TheVariants as flaw
+use Rattle.wit_merge.specs.declared.flaws.Flaw.TheVariants as wrong
 use Rattle.wit_merge.specs.declared.reading.Count.{Count}
 
 -- ---- an order
@@ -28,15 +28,15 @@ is_origin bytes = (length bytes == 0) || bytes_eq (take 3 bytes) (9 ∷ 35 ∷ 3
 -- what is wrong with an order of types that are written so
 abbrev pub pair_flaw : List ℕ → List ℕ → List ℕ → List ℕ → Option Flaw
 pair_flaw from to key origin =
-    if not (is_origin origin) then Some flaw.Origin
-    else if not (is_plain key) || not (is_plain (drop 1 origin)) then Some flaw.Byte
-    else if bytes_eq from to then Some flaw.Itself
+    if not (is_origin origin) then Some wrong.Origin
+    else if not (is_plain key) || not (is_plain (drop 1 origin)) then Some wrong.Byte
+    else if bytes_eq from to then Some wrong.Itself
     else None
 
 -- what is wrong with a line whose first column is read so
 abbrev pub order_flaw : Option (OrderLine NamedType) → List ℕ → List ℕ → Option Flaw
-order_flaw None key origin = Some flaw.Order
-order_flaw (Some (Listed t)) key origin = Some flaw.Order
+order_flaw None key origin = Some wrong.Order
+order_flaw (Some (Listed t)) key origin = Some wrong.Order
 order_flaw (Some (Pair a b)) key origin = pair_flaw (type_text a) (type_text b) key origin
 
 abbrev pub unless : {A : Type 0} → Option Flaw → A → Result A Flaw
@@ -80,17 +80,20 @@ count_words bytes = numbered (unpadded bytes) >>= λ x. with_last x.0 x.1 (numbe
 
 abbrev pub counted : Count → Result (List ℕ × List ℕ) Flaw → Result (Count × List ℕ) Flaw
 counted count (Ok words) = Ok (count, words.0)
-counted count (Err flaw) = Err flaw.Count
+counted count (Err flaw) = Err wrong.Count
 
 abbrev pub counted_by : Option (Count × List ℕ) → Result (Count × List ℕ) Flaw
-counted_by None = Err flaw.Count
+counted_by None = Err wrong.Count
 counted_by (Some x) = counted x.0 (order_words x.1)
 
 -- how many runs met an order, and the order
 abbrev pub counted_words : List ℕ → Result (Count × List ℕ) Flaw
 counted_words bytes = counted_by (count_words bytes)
 
--- how many runs were counted
+-- the line is to say how many runs were counted
+abbrev pub is_runs : List ℕ → Bool
+is_runs bytes = bytes_eq (until 32 bytes).0 (codes "runs")
+
+-- how many they are
 abbrev pub runs_words : List ℕ → Option ℕ
-runs_words bytes =
-    if bytes_eq (take 5 bytes) (codes "runs ") then above_0 (drop 5 bytes) else None
+runs_words bytes = after 32 (until 32 bytes).1 >>= above_0

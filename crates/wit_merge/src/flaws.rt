@@ -2,7 +2,7 @@
 
 ghost use Rattle.std.specs.Prelude.{◌≡◌};
 ghost use Rattle.wit_merge.specs.declared.flaws.MergeError.TheVariants.{Memory};
-ghost use Rattle.wit_merge.specs.Flaws.{cause_of, flaw_text};
+ghost use Rattle.wit_merge.specs.Flaws.{cause_of, flaw_of, flaw_text};
 
 use std::alloc::AllocError;
 use wit_model::Cause;
@@ -60,6 +60,16 @@ impl Flaw {
             Flaw::More => Cause::Limit,
             _ => Cause::Syntax,
         }
+    }
+}
+
+/// What is wrong with a line that isn't whole, by the stream's name of that.
+pub fn flaw_of(cause: Cause) -> Flaw
+    ensures { result ≡ flaw_of cause }
+{
+    match cause {
+        Cause::Long => Flaw::Long,
+        _ => Flaw::Cut,
     }
 }
 

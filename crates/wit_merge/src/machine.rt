@@ -8,7 +8,7 @@ ghost use Rattle.wit_merge.specs.Merging.{RefusesAt, merged};
 ghost use Rattle.wit_merge.specs.Outputs.{Refuses, ShowsFrom, ShowsOrders, Tells, ended};
 ghost use Rattle.wit_merge.specs.Showing.{allowed, some_allowed};
 
-use crate::flaws::{Flaw, MergeError};
+use crate::flaws::{Flaw, MergeError, flaw_of};
 use crate::merging::Merging;
 use crate::texts::{bad_text, merged_text, people_text, unseen_text};
 use std::alloc::{AllocError, Global};
@@ -112,11 +112,7 @@ impl Machine for Showing {
         beginning: &[u8],
         cause: Cause,
     ) -> Result<(Vec<u8>, Summary), AllocError> {
-        let flaw = match cause {
-            Cause::Long => Flaw::Long,
-            _ => Flaw::Cut,
-        };
-        refused(alloc, number, flaw)
+        refused(alloc, number, flaw_of(cause))
     }
 
     fn end(&mut self, alloc: Global, number: u64) -> Result<(Vec<u8>, Summary), AllocError> {

@@ -7,7 +7,7 @@ ghost use Rattle.wit_merge.specs.Merging.{Enters, merged};
 ghost use Rattle.wit_merge.specs.Reading.{counted_words, order_words, runs_words};
 
 use crate::flaws::{Flaw, MergeError};
-use crate::reading::{counted_words, order_words, runs_words};
+use crate::reading::{counted_words, is_runs, order_words, runs_words};
 use crate::rows::{Rows, count, enter};
 use crate::standing::{Part, Standing};
 use indexmap::IndexMap;
@@ -85,7 +85,7 @@ impl Merging {
                 self.take_order(alloc, bytes)
             }
             Part::Orders | Part::Counted => self.take_order(alloc, bytes),
-            Part::Opened if bytes.starts_with(b"runs ") => self.take_runs(bytes),
+            Part::Opened if is_runs(bytes) => self.take_runs(bytes),
             Part::Opened => {
                 self.standing.part = Part::Free;
                 self.take_count(bytes)

@@ -4,7 +4,7 @@ ghost use Rattle.std.specs.Prelude.{◌≡◌, IfOk, option_map};
 ghost use Rattle.wit_orders.specs.Reading.{order_line};
 ghost use Rattle.wit_merge.specs.Flaws.{Gives};
 ghost use Rattle.wit_merge.specs.Reading.{above_0, count_words, counted_words, is_origin, is_plain};
-ghost use Rattle.wit_merge.specs.Reading.{is_plain_byte, numbered, order_flaw, order_words};
+ghost use Rattle.wit_merge.specs.Reading.{is_plain_byte, is_runs, numbered, order_flaw, order_words};
 ghost use Rattle.wit_merge.specs.Reading.{pair_flaw, runs_words, unpadded};
 
 use crate::flaws::{Flaw, MergeError};
@@ -148,16 +148,24 @@ fn above_0(word: &[u8]) -> Result<Option<u32>, AllocError>
     }
 }
 
-/// How many runs were counted.
+/// Whether the line is to say how many runs were counted.
+pub fn is_runs(bytes: &[u8]) -> bool
+    ensures { result ≡ is_runs bytes.now }
+{
+    let (word, _rest) = split_before(b' ', bytes);
+    word == b"runs".as_slice()
+}
+
+/// How many runs were counted, as such a line says it.
 ///
 /// # Errors
 /// Want of memory alone.
 pub fn runs_words(bytes: &[u8]) -> Result<Option<u32>, AllocError>
     ensures { IfOk result (λ runs. runs ≡ runs_words bytes.now) }
 {
-    if bytes.starts_with(b"runs ") {
-        above_0(bytes.get(5..).unwrap_or(b""))
-    } else {
-        Ok(None)
+    let (_word, rest) = split_before(b' ', bytes);
+    match rest {
+        [b' ', number @ ..] => above_0(number),
+        _ => Ok(None),
     }
 }

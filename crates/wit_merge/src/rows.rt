@@ -50,7 +50,8 @@ pub fn enter(
 {
     match place_of(rows, key) {
         Some(place) => {
-            rows[place].tally = standing.again(rows[place].tally);
+            let note = &mut rows[place];
+            note.tally = standing.again(note.tally);
             Ok(())
         }
         None => add(alloc, rows, key, origin, standing.again(UNMET)),
@@ -83,9 +84,10 @@ pub fn count(rows: &mut Rows, standing: Standing, key: &[u8], count: Count) -> b
 {
     match place_of(rows, key) {
         Some(place) => {
-            let tally = rows[place].tally;
-            rows[place].tally = standing.counted(tally, count);
-            tally.file == standing.files
+            let note = &mut rows[place];
+            let is_met = note.tally.file == standing.files;
+            note.tally = standing.counted(note.tally, count);
+            is_met
         }
         None => false,
     }

@@ -27,7 +27,7 @@ pub fn merged_text(
     rows: Slice<'_, Vec<u8>, Note>,
     total: u32,
 ) -> Result<Vec<u8>, AllocError>
-    ensures { IfOk result (λ text. text.items ≡ merged_text total (rows_of rows)) }
+    ensures { IfOk result (λ text. text.items ≡ merged_text total (rows_of rows.entry)) }
 {
     let mut text = String::from_str(alloc, "runs ")?;
     let digits = total.to_string(alloc)?;
@@ -43,7 +43,7 @@ fn put_rows(
     text: &mut Vec<u8>,
     rows: Slice<'_, Vec<u8>, Note>,
 ) -> Result<(), AllocError>
-    ensures { OnOk result (text.new.items ≡ text.old.items ++ rows_text (rows_of rows)) }
+    ensures { OnOk result (text.new.items ≡ text.old.items ++ rows_text (rows_of rows.entry)) }
 {
     let mut rest = rows;
     while let Some(((key, note), others)) = rest.split_first() {
@@ -57,10 +57,10 @@ fn put_row(alloc: Global, text: &mut Vec<u8>, key: &[u8], note: &Note) -> Result
     ensures { OnOk result (text.new.items ≡ text.old.items
         ++ row_text (row key.now note.now.origin.items note.now.tally)) }
 {
-    put_number(alloc, text, note.tally.runs)?;
+    put_number(alloc, text, u64::from(note.tally.runs))?;
     if note.tally.last != 0 {
         text.push(b' ')?;
-        put_number(alloc, text, note.tally.last)?;
+        put_number(alloc, text, u64::from(note.tally.last))?;
     }
     text.push(b' ')?;
     text.extend_from_slice(key)?;
@@ -69,7 +69,7 @@ fn put_row(alloc: Global, text: &mut Vec<u8>, key: &[u8], note: &Note) -> Result
     Ok(())
 }
 
-fn put_number(alloc: Global, text: &mut Vec<u8>, number: u32) -> Result<(), AllocError>
+fn put_number(alloc: Global, text: &mut Vec<u8>, number: u64) -> Result<(), AllocError>
     ensures { OnOk result (text.new.items ≡ text.old.items ++ decimal number) }
 {
     let digits = number.to_string(alloc)?;
@@ -87,8 +87,8 @@ pub fn unseen_text(
     total: u32,
     within: u32,
 ) -> Result<(Vec<u8>, u64), AllocError>
-    ensures text { IfOk result (λ r. r.0.items ≡ unseen_text within total (rows_of rows)) }
-    ensures count { IfOk result (λ r. r.1 ≡ count_if (is_unseen within total) (rows_of rows)) }
+    ensures text { IfOk result (λ r. r.0.items ≡ unseen_text within total (rows_of rows.entry)) }
+    ensures count { IfOk result (λ r. r.1 ≡ count_if (is_unseen within total) (rows_of rows.entry)) }
 {
     let all = rows.len() as u64;
     let mut text = Vec::new(alloc);
@@ -105,8 +105,7 @@ pub fn unseen_text(
         }
         rest = others;
     }
-    let last = unseen_line(alloc, unseen, all, unknown)?;
-    text.extend_from_slice(last.as_bytes())?;
+    put_unseen_line(alloc, &mut text, unseen, all, unknown)?;
     Ok((text, unseen))
 }
 
@@ -121,25 +120,29 @@ fn put_ago(alloc: Global, text: &mut Vec<u8>, key: &[u8], runs: u32) -> Result<(
 {
     text.extend_from_slice(key)?;
     text.extend_from_slice(b"\t# ")?;
-    put_number(alloc, text, runs)?;
+    put_number(alloc, text, u64::from(runs))?;
     text.extend_from_slice(b" runs ago\n")?;
     Ok(())
 }
 
-fn unseen_line(alloc: Global, unseen: u64, all: u64, unknown: u64) -> Result<String, AllocError>
-    ensures { IfOk result (λ text. string_bytes text ≡ unseen_line unseen all unknown) }
+fn put_unseen_line(
+    alloc: Global,
+    text: &mut Vec<u8>,
+    unseen: u64,
+    all: u64,
+    unknown: u64,
+) -> Result<(), AllocError>
+    ensures { OnOk result (text.new.items
+        ≡ text.old.items ++ unseen_line unseen all unknown) }
 {
-    let mut text = String::from_str(alloc, "unseen: ")?;
-    let digits = unseen.to_string(alloc)?;
-    text.push_str(&digits)?;
-    text.push_str(" of ")?;
-    let digits = all.to_string(alloc)?;
-    text.push_str(&digits)?;
-    text.push_str(" orders, unknown: ")?;
-    let digits = unknown.to_string(alloc)?;
-    text.push_str(&digits)?;
-    text.push('\n')?;
-    Ok(text)
+    text.extend_from_slice(b"unseen: ")?;
+    put_number(alloc, text, unseen)?;
+    text.extend_from_slice(b" of ")?;
+    put_number(alloc, text, all)?;
+    text.extend_from_slice(b" orders, unknown: ")?;
+    put_number(alloc, text, unknown)?;
+    text.push(b'\n')?;
+    Ok(())
 }
 
 /// Each type, and below it, set in, what may be asked for while it is held, with where that was first
@@ -148,7 +151,7 @@ fn unseen_line(alloc: Global, unseen: u64, all: u64, unknown: u64) -> Result<Str
 /// # Errors
 /// Want of memory alone.
 pub fn people_text(alloc: Global, rows: Slice<'_, Vec<u8>, Note>) -> Result<Vec<u8>, AllocError>
-    ensures { IfOk result (λ text. text.items ≡ people_rows [] (rows_of rows)) }
+    ensures { IfOk result (λ text. text.items ≡ people_rows [] (rows_of rows.entry)) }
 {
     let mut text = Vec::new(alloc);
     let mut held: &[u8] = b"";
