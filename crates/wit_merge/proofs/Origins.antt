@@ -1,12 +1,11 @@
 -- How long the part of an origin is that tells of the request.
 use Rattle.std.proofs.Common.{◌≡◌, ℕ, zero, suc, ◌<◌, ◌≤◌, true, false, cond, List, [], ◌∷◌, length, take, drop}
-use Rattle.std.proofs.Common.{codes, refl, sym, ap, ◌∙◌, arith}
-use Rattle.std.specs.Str.{bytes_eq}
-use Rattle.wit_merge.specs.Texts.{before_while}
+use Rattle.std.proofs.Common.{refl, sym, ap, ◌∙◌, arith}
+use Rattle.wit_merge.specs.Texts.{before_while, begins_while}
 
 pub before_while-at : (bytes : List ℕ) (n : ℕ) → n ≤ length bytes
-    → ((k : ℕ) → k < n → bytes_eq (take 7 (drop k bytes)) (codes " while ") ≡ false)
-    → (n < length bytes → bytes_eq (take 7 (drop n bytes)) (codes " while ") ≡ true)
+    → ((k : ℕ) → k < n → begins_while (drop k bytes) ≡ false)
+    → (n < length bytes → begins_while (drop n bytes) ≡ true)
     → take n bytes ≡ before_while bytes
 before_while-at [] zero within none here = refl
 before_while-at [] (suc n) within none here = absurd (omega (arith, within))

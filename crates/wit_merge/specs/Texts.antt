@@ -33,11 +33,14 @@ merged_text total rows = runs_text total ++ rows_text rows
 
 -- ---- for people: each type, and below it, set in, what may be asked for while it is held
 
+abbrev pub begins_while : List ℕ → Bool
+begins_while bytes = bytes_eq (take 7 bytes) (codes " while ")
+
 -- where a request was made, without where what is held was asked for
 abbrev pub before_while : List ℕ → List ℕ
 before_while [] = []
 before_while (b ∷ bytes) =
-    if bytes_eq (take 7 (b ∷ bytes)) (codes " while ") then [] else b ∷ before_while bytes
+    if begins_while (b ∷ bytes) then [] else b ∷ before_while bytes
 
 -- of an origin, whose first byte is a tab
 abbrev pub place_text : List ℕ → List ℕ

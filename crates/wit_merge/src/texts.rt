@@ -5,7 +5,7 @@ ghost use Rattle.std.specs.Prelude.{◌≡◌, ◌≤◌, ◌++◌, List, [], le
 ghost use Rattle.wit_merge.specs.Outputs.{bad_text};
 ghost use Rattle.wit_orders.specs.Reading.{order_line};
 ghost use Rattle.wit_merge.specs.Rows.{Row, row, rows_of};
-ghost use Rattle.wit_merge.specs.Texts.{ago_text, asked_text, before_while, count_if};
+ghost use Rattle.wit_merge.specs.Texts.{ago_text, asked_text, before_while, begins_while, count_if};
 ghost use Rattle.wit_merge.specs.Texts.{is_unseen, line_text, merged_text, people_row, people_rows};
 ghost use Rattle.wit_merge.specs.Texts.{row_text, rows_text, unseen_line};
 ghost use Rattle.wit_merge.specs.Texts.{unseen_text};
@@ -97,7 +97,12 @@ pub fn unseen_text(
     let mut unknown = 0;
     while let Some(((key, note), others)) = rest.split_first() {
         if is_unseen(note.tally, total, within) {
-            put_ago(alloc, &mut text, key.as_slice(), total.saturating_sub(note.tally.last))?;
+            put_ago(
+                alloc,
+                &mut text,
+                key.as_slice(),
+                total.saturating_sub(note.tally.last),
+            )?;
             unseen += 1;
         }
         if note.tally.last == 0 {
@@ -216,11 +221,18 @@ fn length_before_while(origin: &[u8]) -> usize
     ensures within { result ≤ length origin.now }
 {
     for place in 0..origin.len() {
-        if origin[place..].starts_with(b" while ") {
+        let (_request, rest) = origin.split_at(place);
+        if begins_while(rest) {
             return place;
         }
     }
     origin.len()
+}
+
+fn begins_while(bytes: &[u8]) -> bool
+    ensures { result ≡ begins_while bytes.now }
+{
+    bytes.starts_with(b" while ")
 }
 
 /// The text of a bad line, by its number from 1.

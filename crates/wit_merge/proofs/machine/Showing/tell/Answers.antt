@@ -20,7 +20,7 @@ returns-in_ok-merged_text-in-Merged c =
       same = IsPermutation-map row_of old new c.in_ok-sort_keys.ensures.reordered.0;
       told = (
         c.in_ok-merged_text-in-Merged.ensures
-        ∙ ap₂ merged_text c.total-total.ensures (ap rows_of c.as_slice-rows.ensures.entries),
+            ∙ ap₂ merged_text c.total-total.ensures (ap rows_of c.as_slice-rows.ensures.entries),
         c.summary.ensures,
       );
     })
@@ -37,7 +37,7 @@ returns-in_ok-people_text-in-Text c =
       same = IsPermutation-map row_of old new c.in_ok-sort_keys.ensures.reordered.0;
       told = (
         c.in_ok-people_text-in-Text.ensures
-        ∙ ap (people_rows []) (ap rows_of c.as_slice-rows.ensures.entries),
+            ∙ ap (people_rows []) (ap rows_of c.as_slice-rows.ensures.entries),
         c.summary-in-Text.ensures,
       );
     })
@@ -55,10 +55,10 @@ returns-in_ok-text-in-Unseen c =
       same = IsPermutation-map row_of old new c.in_ok-sort_keys.ensures.reordered.0;
       told = (
         c.in_ok-text-in-Unseen.ensures.text
-        ∙ ap₂ (unseen_text c.in-Unseen.within) c.total-total.ensures same,
+            ∙ ap₂ (unseen_text c.in-Unseen.within) c.total-total.ensures same,
         c.summary-in-Unseen.ensures
-        ∙ ap (λ n. ended n None) (c.in_ok-text-in-Unseen.ensures.count
-        ∙ ap₂ (λ total rows. count_if (is_unseen c.in-Unseen.within total) rows)
-        c.total-total.ensures same),
+            ∙ ap (λ n. ended n None) (c.in_ok-text-in-Unseen.ensures.count
+            ∙ ap₂ (λ total rows. count_if (is_unseen c.in-Unseen.within total) rows)
+            c.total-total.ensures same),
       );
     })
