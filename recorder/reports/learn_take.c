@@ -44,8 +44,8 @@ static const char *type_of(struct taking *taking, const struct lock_name *lock)
         return NULL;
     char *name = lasting_name(taking, lasting->name);
     const char *build = lasting->lasts ? "" : lasting->build_id;
-    const char *type = texts_say(taking->learning->met.texts, *build ? "%s \"%s (build %s)\"" : "%s \"%s%s\"", lock->class,
-        name, build);
+    const char *type = texts_say(taking->learning->met.texts, *build ? "%s \"%s (build %s)\"" : "%s \"%s%s\"",
+        lock->class, name, build);
     free(name);
     return type;
 }

@@ -72,8 +72,7 @@ static void add_step(struct reports *reports, struct notes *notes, const struct 
 {
     char *held, *asked;
     places_of(order, &held, &asked);
-    reports_add_step(reports, order->from.name, order->to.name,
-        spot(notes, asked, order->asked.site));
+    reports_add_step(reports, order->from.name, order->to.name, spot(notes, asked, order->asked.site));
     free(held);
     free(asked);
 }

@@ -23,7 +23,7 @@ struct orders_asked {
     unsigned long lines; /* that were given */
     struct orders_part *part;
     size_t parts, room;
-    bool is_cut; /* a file ended within a line: nothing is given after that */
+    bool is_cut;     /* a file ended within a line: nothing is given after that */
     char *wrong;     /* why a file can't be read; NULL where all could be */
     int status;      /* the program's */
     bool has_failed; /* there is no answer, and no file is to blame */
