@@ -117,10 +117,10 @@ char *asked_answer(struct orders_asked *asked)
     asked->status = verdict_end(&asked->verdict);
     fclose(asked->answer);
     asked->answer = NULL;
-    if (!asked->wrong && asked->status == BAD_LINE)
-        asked->wrong = told_wrong(asked);
-    if (asked->wrong)
-        return copy(asked->wrong);
+    /* A bad line stands before what couldn't be read. */
+    char *why = asked->status == BAD_LINE ? told_wrong(asked) : NULL;
+    if (why || asked->wrong)
+        return why ? why : copy(asked->wrong);
     if (asked->status <= FOUND)
         return NULL;
     asked->has_failed = true;

@@ -98,7 +98,8 @@ static void read_files(struct learnt *learnt, const char *witness, char **files,
 {
     if (!*files)
         refuse("no file is named");
-    end_for(learnt_read(learnt, witness, files, NULL), learnt->has_failed, done);
+    const char *why = learnt_read(learnt, witness, files, NULL);
+    end_for(why, learnt->has_failed, done);
 }
 
 /* What was written to standard output is there, or it is told that it isn't. */
@@ -219,7 +220,8 @@ static void ask_of(struct orders_asked *asked, const char *witness, const char *
     asked_begin(asked, witness, word, number);
     for (; *files; files++)
         asked_file(asked, *files);
-    end_for(asked_answer(asked), asked->has_failed, "told");
+    const char *why = asked_answer(asked);
+    end_for(why, asked->has_failed, "told");
 }
 
 static int tell_text(const char *witness, char **words)
