@@ -1,6 +1,6 @@
 -- Where an order stands, and what a change leaves.
-use Rattle.std.proofs.Common.{◌≡◌, ℕ, suc, zero, ◌++◌, List, [], ◌∷◌, length, map, None, Some, Option}
-use Rattle.std.proofs.Common.{position, nat_eq, unwrap_or, is_some, slice_get, false, true≢false, refl, sym, ap, ap₂, ◌∙◌}
+use Rattle.std.proofs.Common.{◌≡◌, ℕ, suc, zero, ◌++◌, List, [], ◌∷◌, None, Some, Option}
+use Rattle.std.proofs.Common.{position, nat_eq, unwrap_or, is_some, slice_get, false, true≢false, refl, sym, ap, ◌∙◌}
 use Rattle.std.specs.Global.{Vec}
 use Rattle.std.specs.Str.{bytes_eq}
 use Rattle.std.specs.Map.{keys_of, values_of, lookup}

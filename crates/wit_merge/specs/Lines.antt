@@ -1,5 +1,5 @@
 -- What becomes of a line.
-use Rattle.std.specs.Prelude.{ℕ, ◌+◌, List, [], ◌∷◌, codes, Option, Some, None, Result, Ok, Err, if◌then◌else◌}
+use Rattle.std.specs.Prelude.{ℕ, List, [], ◌∷◌, codes, Option, Some, None, Result, Ok, Err, if◌then◌else◌}
 use Rattle.std.specs.Str.{bytes_eq}
 use Rattle.wit_merge.specs.declared.flaws.Flaw.{Flaw}
 use Rattle.wit_merge.specs.declared.flaws.Flaw.TheVariants as wrong

@@ -1,8 +1,7 @@
 -- What a merging in progress may write, and what becomes of a line.
-use Rattle.std.specs.Prelude.{◌≡◌, ℕ, List, Result}
+use Rattle.std.specs.Prelude.{ℕ, List, Result}
 use Rattle.wit_stream.specs.declared.machine.Step.{Step}
 use Rattle.wit_stream.specs.declared.machine.Step.TheVariants.{Goes, Ends}
-use Rattle.wit_stream.specs.declared.summary.Summary.{Summary}
 use Rattle.wit_merge.specs.declared.flaws.Flaw.{Flaw}
 use Rattle.wit_merge.specs.declared.flaws.MergeError.{MergeError}
 use Rattle.wit_merge.specs.declared.merging.Merging.{Merging}

@@ -1,4 +1,4 @@
-use Rattle.std.proofs.Common.{◌≡◌, ◌≤◌, ◌+◌, ◌++◌, [], length}
+use Rattle.std.proofs.Common.{◌≡◌, ◌≤◌, ◌+◌, ◌++◌, length}
 use Rattle.wit_merge.specs.Rows.{rows_of}
 use Rattle.wit_merge.specs.Texts.{count_if, is_unknown, is_unseen, unseen_rows}
 use Rattle.wit_merge.proofs.texts.unseen_text.Given as goal
