@@ -6,7 +6,7 @@
 #include "finding_lines.h"
 #include "findings_run.h"
 #include "follow.h"
-#include "going_verdict.h"
+#include "live_verdict.h"
 #include "output_files.h"
 #include "replay_answers.h"
 
@@ -82,7 +82,7 @@ static bool has_whole_stream(struct process *process)
 }
 
 /* Has the verifier that goes on read what is new of the stream. False where it can't. */
-static bool reads_on(struct process *process, struct going_verdict *going)
+static bool reads_on(struct process *process, struct live_verdict *going)
 {
     struct run *run = process->run;
     enum resolved resolved = going_reads(going, run->resolver, run->settings.witness, &process->stream);
@@ -93,7 +93,7 @@ static bool reads_on(struct process *process, struct going_verdict *going)
 }
 
 /* In the end the notes are the process's own. */
-static void take_notes(struct process *process, struct going_verdict *going)
+static void take_notes(struct process *process, struct live_verdict *going)
 {
     if (process->is_followed) {
         process->notes = *resolving_notes(going->resolving);
@@ -106,7 +106,7 @@ static void take_notes(struct process *process, struct going_verdict *going)
 }
 
 /* Asks the verifier that goes on; where it can't, another one. */
-static char *ask_going(struct process *process, struct going_verdict *going, size_t *length)
+static char *ask_going(struct process *process, struct live_verdict *going, size_t *length)
 {
     bool ends = !process->is_followed || process->is_last_look;
     char *told = NULL;
@@ -125,7 +125,7 @@ static char *ask_going(struct process *process, struct going_verdict *going, siz
 void replay(struct process *process)
 {
     size_t length = 0;
-    struct going_verdict *going = follow_verdict(process->run, process);
+    struct live_verdict *going = follow_verdict(process->run, process);
     char *told = going ? ask_going(process, going, &length) : ask(process, &length);
     process->reports.notes = &process->notes;
     process->state.lacks_orders = process->is_followed || !wants_orders(process);

@@ -2,7 +2,7 @@
 
 #include "allocation.h"
 #include "format.h"
-#include "made_locks.h"
+#include "stream_locks.h"
 #include "place_words.h"
 #include "progress.h"
 #include "type_names.h"
