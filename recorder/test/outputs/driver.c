@@ -61,7 +61,7 @@ static void end_reports(struct reports *reports)
 {
     for (size_t i = 0; i < reports->count; i++)
         if (reports->report[i].last > 0)
-            report_names_silence(&reports->report[i], reports->notes);
+            report_names_ignore_line(&reports->report[i], reports->notes);
 }
 
 static void end_process(void)
