@@ -20,7 +20,7 @@ struct found {
     long process; /* 0 where it stands for many runs */
     struct notes notes;
     struct reports reports;
-    struct reports ignored;  /* what isn't told: by the user's ignore file, or as right in a library */
+    struct reports ignored; /* what isn't told: by the user's ignore file, or as right in a library */
     struct order_list orders;
     char *picture; /* of these, as SVG; NULL where none is drawn */
 };

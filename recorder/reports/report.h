@@ -53,10 +53,10 @@ struct report {
     size_t lines, room;
     size_t first, last; /* the numbers of the lines of the two locks whose types are at odds; 0 where there is none */
     bool is_over;       /* the thread that waited for itself went on */
-    char *ignore_line;      /* the line of an ignore file that would have it ignored; NULL where none would */
+    char *ignore_line;  /* the line of an ignore file that would have it ignored; NULL where none would */
     enum ignored_cause ignored; /* why it isn't told */
-    struct alarm alarm;        /* how much it is to be feared, once the reports are graded (grades.h) */
-    struct schedule *schedule; /* how its threads come to hang; NULL where no single locks were taken both ways */
+    struct alarm alarm;         /* how much it is to be feared, once the reports are graded (grades.h) */
+    struct schedule *schedule;  /* how its threads come to hang; NULL where no single locks were taken both ways */
 };
 
 /* The texts and numbers point into the notes. */

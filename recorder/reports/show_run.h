@@ -83,7 +83,7 @@ struct process {
     struct stream stream;
     struct notes notes;
     struct reports reports;
-    struct reports ignored;  /* what isn't told: the user doesn't want it, or it is right in a library */
+    struct reports ignored; /* what isn't told: the user doesn't want it, or it is right in a library */
     struct state state;
     int status;          /* of the verifier, as a shell says it */
     bool resolved;       /* else its lines couldn't be made */

@@ -21,8 +21,8 @@ struct ignored_names {
 
 /* A new struct is all zeroes. */
 struct ignored {
-    struct map names;        /* types of which a thread may take several locks: the cause of each */
-    struct map known;        /* pairs by their names: numbers in the list, from 1 on */
+    struct map names;           /* types of which a thread may take several locks: the cause of each */
+    struct map known;           /* pairs by their names: numbers in the list, from 1 on */
     struct ignored_names *pair; /* each once */
     size_t pairs, pair_room;
     struct texts *texts;

@@ -108,7 +108,7 @@ struct notes {
     struct lock_name *lock; /* lock[N - 1] is that of number N */
     size_t locks, lock_room;
     struct single single;    /* the pairs of single locks */
-    struct ignored ignored;      /* what of its types isn't told */
+    struct ignored ignored;  /* what of its types isn't told */
     struct lock_pairs pairs; /* of single locks, where orders are learnt or reports are to be confirmed */
     unsigned long pending;   /* requests that never ended */
     bool has_shared;         /* a lock may be taken by other processes, too */
