@@ -7,7 +7,7 @@
 #include "judge_place.h"
 #include "names.h"
 #include "report_action.h"
-#include "told_lines.h"
+#include "lock_lines.h"
 
 #include <string.h>
 

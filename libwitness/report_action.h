@@ -1,4 +1,4 @@
-/* Reports (report.c), and where the library tells what it has to tell (tell.c). */
+/* Reports (report_action.c), and where the library tells what it has to tell (log_file.c). */
 #ifndef WITNESS_REPORT_ACTION_H
 #define WITNESS_REPORT_ACTION_H
 

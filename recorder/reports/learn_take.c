@@ -70,7 +70,7 @@ static bool is_allowed(const struct taking *taking, unsigned held, unsigned aske
 {
     const struct notes *notes = &taking->process->notes;
     const char *one = notes->lock[held - 1].type, *other = notes->lock[asked - 1].type;
-    return strcmp(one, other) != 0 && peace_of(&notes->peace, one, other) != PEACE_NONE;
+    return strcmp(one, other) != 0 && why_ignored(&notes->ignored, one, other) != NOT_IGNORED;
 }
 
 /* The order as a file has it; without its origin where there is no room for that. NULL where no file can have it. */

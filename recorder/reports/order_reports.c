@@ -87,5 +87,5 @@ void order_report(struct reports *reports, struct notes *notes, const struct lea
     reports_add_words(reports, "established order:");
     for (size_t i = 0; i < count; i++)
         add_step(reports, notes, &learnt->order[way[i]]);
-    report_names_silence(report, notes);
+    report_names_ignore_line(report, notes);
 }

@@ -145,16 +145,16 @@ static size_t count_blessed(const struct learnt *learnt)
     return blessed;
 }
 
-/* What is known of all orders, as a text of one's own. Of those in peace nothing is. */
+/* What is known of all orders, as a text of one's own. Of those that are ignored nothing is. */
 static char *verdict_of(const struct learnt *learnt, const struct judgement *judgement)
 {
-    const char *peace = count_blessed(learnt) > 0 ? " and those in peace" : "";
+    const char *ignored = count_blessed(learnt) > 0 ? " and the ignored ones" : "";
     const char *alone = judgement->against == 1 ? "it" : "these";
     if (judgement->against > 0)
         return say_text("%zu order%s against others, and no circle without %s%s", judgement->against,
-            judgement->against == 1 ? "" : "s", alone, peace);
-    if (*peace)
-        return copy("no circle without those in peace");
+            judgement->against == 1 ? "" : "s", alone, ignored);
+    if (*ignored)
+        return copy("no circle without the ignored ones");
     return copy("clean: threads that ask for nothing but these orders never wait for one another in a circle "
                 "(docs/PROOFS.md)");
 }
@@ -181,7 +181,7 @@ static int tell(const struct learnt *learnt, const struct judgement *judgement, 
         report_write(stdout, &judgement->reports.report[i], false, suppressions);
     size_t blessed = count_blessed(learnt);
     if (blessed > 0)
-        printf("orders: %zu of them %s left in peace\n", blessed, blessed == 1 ? "is" : "are");
+        printf("orders: %zu of them %s ignored\n", blessed, blessed == 1 ? "is" : "are");
     printf("orders: %s\n", summary);
     return status;
 }

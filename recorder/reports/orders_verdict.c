@@ -25,7 +25,7 @@ static int by_trust(const void *one, const void *other, void *with)
     return (one_at > other_at) - (one_at < other_at);
 }
 
-/* The numbers of the orders that aren't left in peace, in the sequence of judging: a list of one's own. */
+/* The numbers of the orders that aren't left in ignored, in the sequence of judging: a list of one's own. */
 static size_t *in_sequence(struct learnt *learnt, size_t *count)
 {
     size_t *sequence = take(learnt->orders * sizeof *sequence);

@@ -6,7 +6,7 @@
 #include "finding_lines.h"
 #include "findings_run.h"
 #include "follow.h"
-#include "going_verdict.h"
+#include "live_verdict.h"
 #include "output_files.h"
 #include "replay_answers.h"
 
@@ -26,27 +26,27 @@ static bool wants_orders(const struct process *process)
 }
 
 /* Why nothing is told of the report. */
-static enum peace_cause peace_of_report(const struct report *report, const struct peace *peace)
+static enum ignored_cause cause_of(const struct report *report, const struct ignored *ignored)
 {
     if ((report->kind != REPORT_REVERSAL && report->kind != REPORT_DUPLICATE) || report->first == 0)
-        return PEACE_NONE;
-    return peace_of(peace, report->line[report->first].type, report->line[report->last].type);
+        return NOT_IGNORED;
+    return why_ignored(ignored, report->line[report->first].type, report->line[report->last].type);
 }
 
 /* Parts what isn't to be told from the rest. The verifier knows nothing of that: it would know the same of the locks. */
-static void part_silenced(struct process *process)
+static void part_ignored(struct process *process)
 {
-    struct reports *reports = &process->reports, *silenced = &process->silenced;
+    struct reports *reports = &process->reports, *ignored = &process->ignored;
     size_t count = reports->count;
-    silenced->notes = reports->notes;
+    ignored->notes = reports->notes;
     reports->count = 0;
     for (size_t i = 0; i < count; i++) {
         struct report report = reports->report[i];
-        report.peace = peace_of_report(&report, &process->notes.peace);
-        if (report.peace == PEACE_NONE)
+        report.ignored = cause_of(&report, &process->notes.ignored);
+        if (report.ignored == NOT_IGNORED)
             reports->report[reports->count++] = report;
         else
-            ADD(silenced->report, silenced->count, silenced->room) = report;
+            ADD(ignored->report, ignored->count, ignored->room) = report;
     }
 }
 
@@ -82,7 +82,7 @@ static bool has_whole_stream(struct process *process)
 }
 
 /* Has the verifier that goes on read what is new of the stream. False where it can't. */
-static bool reads_on(struct process *process, struct going_verdict *going)
+static bool reads_on(struct process *process, struct live_verdict *going)
 {
     struct run *run = process->run;
     enum resolved resolved = going_reads(going, run->resolver, run->settings.witness, &process->stream);
@@ -93,7 +93,7 @@ static bool reads_on(struct process *process, struct going_verdict *going)
 }
 
 /* In the end the notes are the process's own. */
-static void take_notes(struct process *process, struct going_verdict *going)
+static void take_notes(struct process *process, struct live_verdict *going)
 {
     if (process->is_followed) {
         process->notes = *resolving_notes(going->resolving);
@@ -106,7 +106,7 @@ static void take_notes(struct process *process, struct going_verdict *going)
 }
 
 /* Asks the verifier that goes on; where it can't, another one. */
-static char *ask_going(struct process *process, struct going_verdict *going, size_t *length)
+static char *ask_going(struct process *process, struct live_verdict *going, size_t *length)
 {
     bool ends = !process->is_followed || process->is_last_look;
     char *told = NULL;
@@ -125,7 +125,7 @@ static char *ask_going(struct process *process, struct going_verdict *going, siz
 void replay(struct process *process)
 {
     size_t length = 0;
-    struct going_verdict *going = follow_verdict(process->run, process);
+    struct live_verdict *going = follow_verdict(process->run, process);
     char *told = going ? ask_going(process, going, &length) : ask(process, &length);
     process->reports.notes = &process->notes;
     process->state.lacks_orders = process->is_followed || !wants_orders(process);
@@ -134,7 +134,7 @@ void replay(struct process *process)
     free(told);
     if (process->state.bads > 0)
         process->status = BAD_LINES;
-    part_silenced(process);
+    part_ignored(process);
 }
 
 bool trace_is_written(const struct process *process, const char *path)

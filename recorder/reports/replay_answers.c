@@ -91,7 +91,7 @@ static int end(struct replaying *replaying)
 /* All lines have come, few of them. Where the others' verifier can't be asked, one of their own is. */
 static int ask(struct replaying *replaying)
 {
-    struct shared_verdict *shared = &replaying->answers->shared;
+    struct batch_verdict *shared = &replaying->answers->shared;
     size_t *length = &replaying->told_length;
     int status = 0;
     if (replaying->shares)

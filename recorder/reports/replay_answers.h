@@ -9,7 +9,7 @@
 #include <stddef.h>
 #include <stdio.h>
 
-#include "shared_verdict.h"
+#include "batch_verdict.h"
 #include "verdict.h"
 
 /* What it told of some lines. */
@@ -24,7 +24,7 @@ struct answers {
     struct answer *answer;
     size_t count, room;
     size_t bytes; /* how long all are together */
-    struct shared_verdict shared;
+    struct batch_verdict shared;
 };
 
 void answers_end(struct answers *answers);

@@ -8,7 +8,7 @@
 
 #include "deadlock_watch.h"
 #include "allocation.h"
-#include "going_verdict.h"
+#include "live_verdict.h"
 #include "replay.h"
 #include "tell_process.h"
 #include "version.h"
@@ -32,7 +32,7 @@ struct followed {
     struct told_report *told;
     size_t tolds, told_room;
     struct deadlock deadlock;
-    struct going_verdict *going; /* it stays where it is: it is written to */
+    struct live_verdict *going; /* it stays where it is: it is written to */
 };
 
 static struct followed *followed_of(struct run *run, const char *name)
@@ -41,7 +41,7 @@ static struct followed *followed_of(struct run *run, const char *name)
         if (strcmp(run->followed[i].name, name) == 0)
             return &run->followed[i];
     ADD(run->followed, run->followeds, run->followed_room) =
-        (struct followed){.name = copy(name), .going = take(sizeof(struct going_verdict))};
+        (struct followed){.name = copy(name), .going = take(sizeof(struct live_verdict))};
     return &run->followed[run->followeds - 1];
 }
 
@@ -145,7 +145,7 @@ static void read_stream(struct run *run, const struct recording *recording, stru
     free(path);
 }
 
-struct going_verdict *follow_verdict(struct run *run, const struct process *process)
+struct live_verdict *follow_verdict(struct run *run, const struct process *process)
 {
     size_t going = 0;
     struct followed *mine = NULL;

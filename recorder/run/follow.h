@@ -16,8 +16,8 @@ void follow(struct run *run);
 void follow_stops(struct run *run);
 
 /* The verifier that goes on for the process, or begins to where it is followed; NULL where there is none. */
-struct going_verdict;
-struct going_verdict *follow_verdict(struct run *run, const struct process *process);
+struct live_verdict;
+struct live_verdict *follow_verdict(struct run *run, const struct process *process);
 
 /* Keeps that the report was told, and what was said of its single locks: texts of one's own. */
 void follow_keeps(struct run *run, const char *recording, char *report, char *alarm);

@@ -4,7 +4,7 @@
 #include "declarations.h"
 #include "ignore.h"
 #include "allocation.h"
-#include "named_lines.h"
+#include "verifier_lines.h"
 #include "right_orders.h"
 #include "sites.h"
 #include "symbols.h"
@@ -65,7 +65,7 @@ struct resolving {
     struct sites sites;
     struct right_requests *requests;
     struct making making;
-    struct named_lines *lines;
+    struct verifier_lines *lines;
     struct notes notes;
 };
 
@@ -83,14 +83,14 @@ struct resolving *resolving_new(struct resolver *resolver, const struct stream *
     resolving->making = (struct making){
         .declared = &resolving->declared,
         .types = &resolving->types,
-        .peace = &resolving->notes.peace,
+        .ignored = &resolving->notes.ignored,
         .sites = &resolving->sites,
         .frames = settings->frames > 1 ? (size_t)settings->frames : 1,
         .is_learnt = is_learnt,
         .has_pairs = is_learnt || settings->confirm > 0,
         .progress = settings->progress,
     };
-    resolving->lines = named_lines_new(&resolving->making, &resolving->notes);
+    resolving->lines = verifier_lines_new(&resolving->making, &resolving->notes);
     return resolving;
 }
 
@@ -98,7 +98,7 @@ void resolving_end(struct resolving *resolving)
 {
     if (!resolving)
         return;
-    named_lines_end(resolving->lines);
+    verifier_lines_end(resolving->lines);
     right_requests_end(resolving->requests);
     types_end(&resolving->types);
     sites_end(&resolving->sites);
@@ -139,9 +139,9 @@ static bool name_types(struct resolving *resolving)
     types_begin(&resolving->types, declared);
     type_names_give(&resolving->types, declared, resolving->resolver->told, resolving->path);
     enum types_stay stay = types_stay(&before, &resolving->types);
-    named_lines_note_types(resolving->lines);
+    verifier_lines_note_types(resolving->lines);
     if (stay == TYPES_RENAMED)
-        named_lines_rename(resolving->lines);
+        verifier_lines_rename(resolving->lines);
     types_end(&before);
     texts_end(derived);
     declared->has_news = false;
@@ -164,8 +164,8 @@ static bool declare(struct resolving *resolving, const char *at, const char *end
     bool has_requests = right_requests_read(resolving->requests, &resolving->types, at, end);
     if (!has_news && !is_first && !has_requests)
         return true;
-    peace_begin(&resolving->notes, &resolving->resolver->ignore, &resolving->types);
-    right_requests_silence(resolving->requests, &resolving->types, &resolving->notes);
+    ignored_begin(&resolving->notes, &resolving->resolver->ignore, &resolving->types);
+    right_requests_ignore(resolving->requests, &resolving->types, &resolving->notes);
     return true;
 }
 
@@ -180,7 +180,7 @@ enum resolved resolving_goes_on(struct resolving *resolving, const struct stream
     resolving->making.progress = resolving->resolver->settings->progress;
     if (!declare(resolving, at, end))
         return RESOLVED_ANEW;
-    resolving->is_bad |= !named_lines_write(resolving->lines, at, end, lines);
+    resolving->is_bad |= !verifier_lines_write(resolving->lines, at, end, lines);
     resolving->is_bad |= resolving->declared.is_odd;
     resolving->read = stream->before + stream->length;
     return resolving->is_bad ? RESOLVED_BADLY : RESOLVED;

@@ -32,7 +32,7 @@ void resolving_end(struct resolving *resolving);
 size_t resolving_read(const struct resolving *resolving);
 
 /*
- * Reads on where it stopped: the stream has what follows. Writes the lines that the verifier reads of that (named_lines.h).
+ * Reads on where it stopped: the stream has what follows. Writes the lines that the verifier reads of that (verifier_lines.h).
  * RESOLVED_BADLY: the lines can't be written, the ignore file can't be read, or the stream has numbers that no recorder
  * writes; what could be made is there. RESOLVED_ANEW: types that were written before have come to be one, and nothing was
  * written: the file is to be read from its beginning, by another one.

@@ -34,8 +34,9 @@ if wanted judged; then
     done
     # A mutex whose holder has ended is still that one's in the trace, and another thread gets it.
     compile odd
-    ! is_of_locks "$all" ./odd >refused && grep -q '^line [0-9]*: F35 RawNotFree$' refused &&
-        sed -n "$(sed -n 's/^line \([0-9]*\):.*/\1/p' refused)p" kept | grep -q ' odd.c:46$'
+    # The line after its request.
+    ! is_of_locks "$all" ./odd >refused && bad=$(sed -n 's/^line \([0-9]*\): F35 RawNotFree$/\1/p' refused) && [ -n "$bad" ] &&
+        sed -n "$((bad - 1))p" kept | grep -q '^check .* odd.c:46$'
     tell judged "odd, whose robust mutex is got when its holder has ended, is refused there" $?
     for program in between reversal recursive; do
         compile $program

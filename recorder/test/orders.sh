@@ -122,7 +122,7 @@ if wanted orders; then
     tell orders "a circle of three: the rare order is the one against the others" $?
     printf '%s\n' '# either' '"a" "c"' >peace
     ordered judge --ignore peace other good
-    stands 0 'orders: 1 of them is left in peace' 'orders: no circle without those in peace: 3 orders, 3 types, 2 runs'
+    stands 0 'orders: 1 of them is ignored' 'orders: no circle without the ignored ones: 3 orders, 3 types, 2 runs'
     tell orders "an order that the user allows" $?
     ordered judge --gen-suppressions other again good
     grep -qx '"c" "a"' told
@@ -131,7 +131,7 @@ if wanted orders; then
     printf '%s\n' '"f(m)" "std::n"' '":n" "a"' '"n" "a"' >peace
     ordered judge --ignore peace prefixed
     [ "$status" -eq 1 ] && grep -c '^lock order' told | grep -qx 1 && grep -q '^ 1st "y::n" ' told &&
-        grep -qx 'orders: 2 of them are left in peace' told
+        grep -qx 'orders: 2 of them are ignored' told
     tell orders "names without their objects" $?
     echo '"a" b' >peace
     ordered judge --ignore peace good

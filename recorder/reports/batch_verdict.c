@@ -1,4 +1,4 @@
-#include "shared_verdict.h"
+#include "batch_verdict.h"
 
 #include <stdlib.h>
 #include <string.h>
@@ -11,7 +11,7 @@ enum { PROCESSES_MOST = 64 };
 static const char look[] = "look\n";
 
 /* What it tells goes to a text that begins anew. */
-static bool hears(struct shared_verdict *shared)
+static bool hears(struct batch_verdict *shared)
 {
     if (shared->to)
         fclose(shared->to);
@@ -22,7 +22,7 @@ static bool hears(struct shared_verdict *shared)
     return shared->to != NULL;
 }
 
-void shared_end(struct shared_verdict *shared)
+void shared_end(struct batch_verdict *shared)
 {
     bool is_of_no_use = shared->is_of_no_use;
     if (shared->is_begun)
@@ -30,11 +30,11 @@ void shared_end(struct shared_verdict *shared)
     if (shared->to)
         fclose(shared->to);
     free(shared->told);
-    *shared = (struct shared_verdict){.is_of_no_use = is_of_no_use};
+    *shared = (struct batch_verdict){.is_of_no_use = is_of_no_use};
 }
 
 /* It stands ready to hear of another process. */
-static bool is_ready(struct shared_verdict *shared, const char *witness)
+static bool is_ready(struct batch_verdict *shared, const char *witness)
 {
     if (shared->processes == PROCESSES_MOST)
         shared_end(shared);
@@ -47,7 +47,7 @@ static bool is_ready(struct shared_verdict *shared, const char *witness)
 }
 
 /* Waits until the text tells all of the moment. */
-static bool has_told(struct shared_verdict *shared)
+static bool has_told(struct batch_verdict *shared)
 {
     do {
         if (!verdict_hears(&shared->verdict))
@@ -57,7 +57,7 @@ static bool has_told(struct shared_verdict *shared)
     return true;
 }
 
-char *shared_tells(struct shared_verdict *shared, const char *witness, const char *lines, size_t length, size_t *told)
+char *shared_tells(struct batch_verdict *shared, const char *witness, const char *lines, size_t length, size_t *told)
 {
     if (shared->is_of_no_use || (length > 0 && lines[length - 1] != '\n'))
         return NULL;

@@ -1,8 +1,8 @@
 /*
  * What `record --show` looks at.
  */
-#ifndef RECORD_SHOWN_PROCESS_H
-#define RECORD_SHOWN_PROCESS_H
+#ifndef RECORD_PROCESS_VIEW_H
+#define RECORD_PROCESS_VIEW_H
 
 #include "options.h"
 

@@ -1,6 +1,6 @@
-/* What the library tells of locks, line by line (told_lines.c). All calls are under the mutex. */
-#ifndef WITNESS_TOLD_LINES_H
-#define WITNESS_TOLD_LINES_H
+/* What the library tells of locks, line by line (lock_lines.c). All calls are under the mutex. */
+#ifndef WITNESS_LOCK_LINES_H
+#define WITNESS_LOCK_LINES_H
 
 #include "recorder.h"
 #include "verifier.h"

@@ -1,9 +1,9 @@
 /*
  * What is asked of processes that go on: which mutexes are held, and by whom. They look at a byte in the first line of
- * their streams (recorder/runtime/held_answer.c), and take it back when they have answered.
+ * their streams (recorder/runtime/mutex_answer.c), and take it back when they have answered.
  */
-#ifndef RECORD_HELD_QUESTION_H
-#define RECORD_HELD_QUESTION_H
+#ifndef RECORD_MUTEX_QUESTION_H
+#define RECORD_MUTEX_QUESTION_H
 
 #include <stddef.h>
 

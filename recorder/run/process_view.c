@@ -1,4 +1,4 @@
-#include "shown_process.h"
+#include "process_view.h"
 
 #include <dirent.h>
 #include <errno.h>
@@ -11,9 +11,9 @@
 #include <unistd.h>
 
 #include "files.h"
-#include "held_question.h"
+#include "mutex_question.h"
 #include "interrupts.h"
-#include "kept_settings.h"
+#include "settings_file.h"
 #include "allocation.h"
 #include "prepare.h"
 #include "show.h"

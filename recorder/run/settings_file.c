@@ -1,4 +1,4 @@
-#include "kept_settings.h"
+#include "settings_file.h"
 
 #include <stdio.h>
 #include <stdlib.h>

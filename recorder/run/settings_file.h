@@ -1,8 +1,8 @@
 /*
  * The settings that a recording keeps beside it, for those who look at it later: a word and its value in each line.
  */
-#ifndef RECORD_KEPT_SETTINGS_H
-#define RECORD_KEPT_SETTINGS_H
+#ifndef RECORD_SETTINGS_FILE_H
+#define RECORD_SETTINGS_FILE_H
 
 #include <stdbool.h>
 

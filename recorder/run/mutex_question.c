@@ -1,4 +1,4 @@
-#include "held_question.h"
+#include "mutex_question.h"
 
 #include <fcntl.h>
 #include <stdbool.h>

@@ -1,4 +1,4 @@
-#include "going_verdict.h"
+#include "live_verdict.h"
 
 #include <stdlib.h>
 #include <string.h>
@@ -10,7 +10,7 @@ enum { BUFFER_BYTES = 1 << 16 };
 static const char look[] = "look\n", order[] = "{\"finding\":\"order\"";
 
 /* It tells to a text that begins anew. */
-static bool hears(struct going_verdict *going)
+static bool hears(struct live_verdict *going)
 {
     if (going->to)
         fclose(going->to);
@@ -24,12 +24,12 @@ static bool hears(struct going_verdict *going)
 
 static ssize_t feed(void *cookie, const char *bytes, size_t length)
 {
-    struct going_verdict *going = cookie;
+    struct live_verdict *going = cookie;
     verdict_feed(&going->verdict, bytes, length);
     return (ssize_t)length;
 }
 
-enum resolved going_reads(struct going_verdict *going, struct resolver *resolver, const char *witness,
+enum resolved going_reads(struct live_verdict *going, struct resolver *resolver, const char *witness,
     const struct stream *stream)
 {
     enum resolved resolved = RESOLVED_ANEW;
@@ -53,7 +53,7 @@ enum resolved going_reads(struct going_verdict *going, struct resolver *resolver
 }
 
 /* Where the line is kept; NULL where it tells of a moment, or isn't wanted. */
-static struct told_lines *place_of(struct going_verdict *going, const char *line, bool wants_orders)
+static struct told_lines *place_of(struct live_verdict *going, const char *line, bool wants_orders)
 {
     static const char *const lasting[] = {"{\"finding\":\"report\"", "{\"finding\":\"bad\""};
     for (size_t i = 0; i < sizeof lasting / sizeof *lasting; i++)
@@ -74,7 +74,7 @@ static void add(struct told_lines *to, const char *bytes, size_t length)
 }
 
 /* Keeps of what was told last what is so from then on. */
-static void keep(struct going_verdict *going, bool wants_orders)
+static void keep(struct live_verdict *going, bool wants_orders)
 {
     const char *at = going->fresh, *end = at + going->fresh_length, *after;
     for (; at < end && (after = memchr(at, '\n', (size_t)(end - at))) != NULL; at = after + 1) {
@@ -85,7 +85,7 @@ static void keep(struct going_verdict *going, bool wants_orders)
 }
 
 /* What it told of the lines before, and since the last moment. */
-static char *told_by(struct going_verdict *going, size_t *length)
+static char *told_by(struct live_verdict *going, size_t *length)
 {
     struct told_lines told = {0};
     fflush(going->to);
@@ -97,7 +97,7 @@ static char *told_by(struct going_verdict *going, size_t *length)
     return told.bytes ? told.bytes : copy("");
 }
 
-char *going_looks(struct going_verdict *going, bool wants_orders, size_t *length)
+char *going_looks(struct live_verdict *going, bool wants_orders, size_t *length)
 {
     if (!going->is_begun)
         return NULL;
@@ -115,7 +115,7 @@ char *going_looks(struct going_verdict *going, bool wants_orders, size_t *length
     return told;
 }
 
-char *going_ends(struct going_verdict *going, size_t *length)
+char *going_ends(struct live_verdict *going, size_t *length)
 {
     if (!going->is_begun)
         return NULL;
@@ -125,7 +125,7 @@ char *going_ends(struct going_verdict *going, size_t *length)
     return told_by(going, length);
 }
 
-void going_leaves(struct going_verdict *going)
+void going_leaves(struct live_verdict *going)
 {
     if (going->is_begun && !going->has_ended)
         verdict_end(&going->verdict);
@@ -135,5 +135,5 @@ void going_leaves(struct going_verdict *going)
     free(going->fresh);
     free(going->kept.bytes);
     free(going->orders.bytes);
-    *going = (struct going_verdict){0};
+    *going = (struct live_verdict){0};
 }

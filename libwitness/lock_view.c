@@ -3,7 +3,7 @@
 #include "judge_place.h"
 #include "libwitness.h"
 #include "names.h"
-#include "told_lines.h"
+#include "lock_lines.h"
 
 #include <errno.h>
 #include <string.h>

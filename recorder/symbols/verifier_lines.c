@@ -1,10 +1,10 @@
-#include "named_lines.h"
+#include "verifier_lines.h"
 
 #include "format.h"
 #include "frames.h"
 #include "map.h"
 #include "allocation.h"
-#include "made_locks.h"
+#include "stream_locks.h"
 #include "place_words.h"
 #include "progress.h"
 #include "source_names.h"
@@ -17,7 +17,7 @@
 
 enum { LINES_BETWEEN = 1 << 16 };
 
-struct named_lines {
+struct verifier_lines {
     const struct making *making;
     FILE *to;
     struct notes *notes;
@@ -42,7 +42,7 @@ static void put_bytes(FILE *to, const char *bytes, size_t length)
 }
 
 /* The line as it stands. */
-static void put_line(struct named_lines *writing, const struct line *line)
+static void put_line(struct verifier_lines *writing, const struct line *line)
 {
     put_bytes(writing->to, line->at, (size_t)(line->end - line->at));
     putc_unlocked('\n', writing->to);
@@ -62,7 +62,7 @@ static void note_blind(struct notes *notes, const char *object)
 }
 
 /* What is noted of the whole. */
-static void note_whole(struct named_lines *writing)
+static void note_whole(struct verifier_lines *writing)
 {
     const struct declared *declared = writing->making->declared;
     writing->notes->pending = declared->pending;
@@ -72,7 +72,7 @@ static void note_whole(struct named_lines *writing)
 }
 
 /* By the file's numbers, since a lock of a pair needn't be one of the trace. */
-void named_lines_note_types(struct named_lines *writing)
+void verifier_lines_note_types(struct verifier_lines *writing)
 {
     const struct types *types = writing->making->types;
     struct single *single = &writing->notes->single;
@@ -82,7 +82,7 @@ void named_lines_note_types(struct named_lines *writing)
 }
 
 /* What single locks lack: calls that aren't in the file, and locks that a thread held besides. */
-static void note_lost(struct named_lines *writing)
+static void note_lost(struct verifier_lines *writing)
 {
     unsigned long held = 0;
     struct single *single = &writing->notes->single;
@@ -99,7 +99,7 @@ static uint32_t place_in(const struct line *line, unsigned field)
     return field_number(line, field, PLACE_MOST - 1, &place) ? place : 0;
 }
 
-static uint32_t frames_number(struct named_lines *writing, uint32_t place, uint32_t stack)
+static uint32_t frames_number(struct verifier_lines *writing, uint32_t place, uint32_t stack)
 {
     const uint32_t key[] = {place, stack};
     struct notes *notes = writing->notes;
@@ -112,7 +112,7 @@ static uint32_t frames_number(struct named_lines *writing, uint32_t place, uint3
 }
 
 /* The line of the place, as a trace has it, and no more. */
-static struct spot bare_spot(struct named_lines *writing, uint32_t place)
+static struct spot bare_spot(struct verifier_lines *writing, uint32_t place)
 {
     char *site = place_in_trace(site_of(writing->making->sites, place));
     struct spot spot = {.site = texts_copy(writing->notes->texts, site, strlen(site))};
@@ -121,7 +121,7 @@ static struct spot bare_spot(struct named_lines *writing, uint32_t place)
 }
 
 /* The number under which the notes have the place's line, its frames and its thread. */
-static size_t spot_number(struct named_lines *writing, uint32_t place, uint32_t stack, uint32_t thread)
+static size_t spot_number(struct verifier_lines *writing, uint32_t place, uint32_t stack, uint32_t thread)
 {
     const uint32_t key[] = {place, writing->has_callers ? stack : 0, writing->has_callers ? thread : 0};
     struct notes *notes = writing->notes;
@@ -140,7 +140,7 @@ static size_t spot_number(struct named_lines *writing, uint32_t place, uint32_t 
 }
 
 /* The place of a call, which is the field of that number: it is put, and answered, as a spot. A stack may follow. */
-static size_t put_place(struct named_lines *writing, const struct line *line, unsigned field)
+static size_t put_place(struct verifier_lines *writing, const struct line *line, unsigned field)
 {
     uint32_t seat, stack = 0, place = place_in(line, field);
     char digits[24], *at = digits + sizeof digits;
@@ -158,7 +158,7 @@ static size_t put_place(struct named_lines *writing, const struct line *line, un
 }
 
 /* A call's line with its place, whose number is the answer; 0 where it has none. */
-static size_t put_placed(struct named_lines *writing, const struct line *line, unsigned field)
+static size_t put_placed(struct verifier_lines *writing, const struct line *line, unsigned field)
 {
     if (field >= line->count) {
         put_line(writing, line);
@@ -169,14 +169,14 @@ static size_t put_placed(struct named_lines *writing, const struct line *line, u
 }
 
 /* Whether pairs of locks are noted, and the line is a call of a seat for a lock. */
-static bool pairs_are_read(const struct named_lines *writing, const struct line *line, uint32_t *seat, uint32_t *lock)
+static bool pairs_are_read(const struct verifier_lines *writing, const struct line *line, uint32_t *seat, uint32_t *lock)
 {
     return writing->making->has_pairs && field_number(line, 1, SEAT_MOST - 1, seat)
         && field_number(line, 2, LOCK_MOST, lock);
 }
 
 /* What was told of the seat's wait is of one that is over. */
-static void end_wait(struct named_lines *writing, const struct line *line)
+static void end_wait(struct verifier_lines *writing, const struct line *line)
 {
     uint32_t seat;
     if (!field_number(line, 1, SEAT_MOST - 1, &seat) || !writing->owner[seat])
@@ -185,7 +185,7 @@ static void end_wait(struct named_lines *writing, const struct line *line)
     writing->owner[seat] = 0;
 }
 
-static void put_check(struct named_lines *writing, const struct line *line)
+static void put_check(struct verifier_lines *writing, const struct line *line)
 {
     uint32_t seat, lock;
     end_wait(writing, line);
@@ -194,7 +194,7 @@ static void put_check(struct named_lines *writing, const struct line *line)
         pairs_ask(&writing->pairs, &writing->notes->pairs, seat, lock, spot);
 }
 
-static void put_try(struct named_lines *writing, const struct line *line)
+static void put_try(struct verifier_lines *writing, const struct line *line)
 {
     uint32_t seat, lock;
     size_t spot = put_placed(writing, line, 4);
@@ -202,7 +202,7 @@ static void put_try(struct named_lines *writing, const struct line *line)
         pairs_try(&writing->pairs, seat, lock, spot);
 }
 
-static void put_lock(struct named_lines *writing, const struct line *line)
+static void put_lock(struct verifier_lines *writing, const struct line *line)
 {
     uint32_t seat, lock;
     put_line(writing, line);
@@ -210,7 +210,7 @@ static void put_lock(struct named_lines *writing, const struct line *line)
         pairs_get(&writing->pairs, seat, lock);
 }
 
-static void put_unlock(struct named_lines *writing, const struct line *line)
+static void put_unlock(struct verifier_lines *writing, const struct line *line)
 {
     uint32_t seat, lock;
     put_line(writing, line);
@@ -218,7 +218,7 @@ static void put_unlock(struct named_lines *writing, const struct line *line)
         pairs_release(&writing->pairs, seat, lock);
 }
 
-static void put_give_up(struct named_lines *writing, const struct line *line)
+static void put_give_up(struct verifier_lines *writing, const struct line *line)
 {
     uint32_t seat, lock;
     put_line(writing, line);
@@ -227,7 +227,7 @@ static void put_give_up(struct named_lines *writing, const struct line *line)
 }
 
 /* The lock of that number has the names that it and its type have by now. */
-static void name_lock(struct named_lines *writing, size_t number)
+static void name_lock(struct verifier_lines *writing, size_t number)
 {
     const struct making *making = writing->making;
     struct texts *texts = writing->notes->texts;
@@ -241,7 +241,7 @@ static void name_lock(struct named_lines *writing, size_t number)
     lock->variable = code_place_in(making->sites, is_type ? made->variable.object : 0, made->variable.offset);
 }
 
-static void keep_lock(struct named_lines *writing, const struct made_lock *made, const struct line *line)
+static void keep_lock(struct verifier_lines *writing, const struct made_lock *made, const struct line *line)
 {
     struct notes *notes = writing->notes;
     struct field class = line->count > 2 ? line->field[2] : (struct field){"", 0};
@@ -251,7 +251,7 @@ static void keep_lock(struct named_lines *writing, const struct made_lock *made,
     name_lock(writing, notes->locks - 1);
 }
 
-void named_lines_rename(struct named_lines *writing)
+void verifier_lines_rename(struct verifier_lines *writing)
 {
     struct notes *notes = writing->notes;
     for (size_t i = 0; i < notes->locks; i++)
@@ -262,7 +262,7 @@ void named_lines_rename(struct named_lines *writing)
 }
 
 /* Types that are one have the number of the first. The variable, which may be long, is left out. */
-static void put_made(struct named_lines *writing, const struct made_lock *made, const struct line *line)
+static void put_made(struct verifier_lines *writing, const struct made_lock *made, const struct line *line)
 {
     enum { FIELD_TYPE = 4, FIELDS = 6 };
     if (made->type == 0 || line->count < FIELDS) {
@@ -274,7 +274,7 @@ static void put_made(struct named_lines *writing, const struct made_lock *made, 
         line->field[FIELD_TYPE + 1].at);
 }
 
-static void put_init(struct named_lines *writing, const struct line *line)
+static void put_init(struct verifier_lines *writing, const struct line *line)
 {
     enum { FIELD_FLAGS = 3 };
     struct made_lock made;
@@ -290,7 +290,7 @@ static void put_init(struct named_lines *writing, const struct line *line)
 }
 
 /* A place for what is noted beside calls. */
-static struct event *new_event(struct named_lines *writing, enum event_kind kind, const struct line *line)
+static struct event *new_event(struct verifier_lines *writing, enum event_kind kind, const struct line *line)
 {
     struct notes *notes = writing->notes;
     struct event *event = &ADD(notes->event, notes->events, notes->event_room);
@@ -302,7 +302,7 @@ static struct event *new_event(struct named_lines *writing, enum event_kind kind
 }
 
 /* The lock whose number is in that field, with its name. */
-static void note_lock(struct named_lines *writing, struct event *event, const struct line *line, unsigned field)
+static void note_lock(struct verifier_lines *writing, struct event *event, const struct line *line, unsigned field)
 {
     uint32_t number;
     if (!field_number(line, field, LOCK_MOST, &number)) {
@@ -314,7 +314,7 @@ static void note_lock(struct named_lines *writing, struct event *event, const st
         event->name = writing->notes->lock[number - 1].name;
 }
 
-static void note_again(struct named_lines *writing, const struct line *line)
+static void note_again(struct verifier_lines *writing, const struct line *line)
 {
     struct event *event = new_event(writing, EVENT_AGAIN, line);
     note_lock(writing, event, line, 2);
@@ -322,7 +322,7 @@ static void note_again(struct named_lines *writing, const struct line *line)
 }
 
 /* The last wait of that seat is over. */
-static void note_went(struct named_lines *writing, const struct line *line)
+static void note_went(struct verifier_lines *writing, const struct line *line)
 {
     struct notes *notes = writing->notes;
     uint32_t seat;
@@ -337,7 +337,7 @@ static void note_went(struct named_lines *writing, const struct line *line)
     }
 }
 
-static void note_foreign(struct named_lines *writing, const struct line *line)
+static void note_foreign(struct verifier_lines *writing, const struct line *line)
 {
     struct event *event = new_event(writing, EVENT_FOREIGN, line);
     note_lock(writing, event, line, 2);
@@ -345,7 +345,7 @@ static void note_foreign(struct named_lines *writing, const struct line *line)
 }
 
 /* `error WORD SEAT LOCK PLACE`. */
-static void note_error(struct named_lines *writing, const struct line *line)
+static void note_error(struct verifier_lines *writing, const struct line *line)
 {
     struct notes *notes = writing->notes;
     struct event *event = &ADD(notes->event, notes->events, notes->event_room);
@@ -356,12 +356,12 @@ static void note_error(struct named_lines *writing, const struct line *line)
     event->site = site_of(writing->making->sites, place_in(line, 4));
 }
 
-static void note_single(struct named_lines *writing, const struct line *line)
+static void note_single(struct verifier_lines *writing, const struct line *line)
 {
     single_read(&writing->notes->single, line->at, (size_t)(line->end - line->at));
 }
 
-static void note_site(struct named_lines *writing, uint32_t place)
+static void note_site(struct verifier_lines *writing, uint32_t place)
 {
     struct single *single = &writing->notes->single;
     if (place > 0 && place < single->sites && !single->site[place])
@@ -369,7 +369,7 @@ static void note_site(struct named_lines *writing, uint32_t place)
 }
 
 /* Where threads asked for single locks, and where they got what they had by then. */
-static void note_sites(struct named_lines *writing)
+static void note_sites(struct verifier_lines *writing)
 {
     struct single *single = &writing->notes->single;
     size_t places = writing->making->declared->places;
@@ -384,12 +384,12 @@ static void note_sites(struct named_lines *writing)
         note_site(writing, single->step[writing->steps].place);
 }
 
-static void note_answer(struct named_lines *writing, const struct line *line)
+static void note_answer(struct verifier_lines *writing, const struct line *line)
 {
     new_event(writing, EVENT_ANSWER, line);
 }
 
-static void note_holder(struct named_lines *writing, const struct line *line)
+static void note_holder(struct verifier_lines *writing, const struct line *line)
 {
     uint32_t thread = 0;
     struct event *event = new_event(writing, EVENT_HOLDER, line);
@@ -398,7 +398,7 @@ static void note_holder(struct named_lines *writing, const struct line *line)
     event->thread = thread;
 }
 
-static void note_owner(struct named_lines *writing, const struct line *line)
+static void note_owner(struct verifier_lines *writing, const struct line *line)
 {
     uint32_t thread = 0, seat;
     end_wait(writing, line);
@@ -410,7 +410,7 @@ static void note_owner(struct named_lines *writing, const struct line *line)
         writing->owner[seat] = writing->notes->events;
 }
 
-static void note_time(struct named_lines *writing, const struct line *line)
+static void note_time(struct verifier_lines *writing, const struct line *line)
 {
     uint32_t now;
     if (field_number(line, 1, UINT32_MAX - 1, &now))
@@ -418,7 +418,7 @@ static void note_time(struct named_lines *writing, const struct line *line)
 }
 
 /* The function that made the thread, and where. */
-static void note_maker(struct named_lines *writing, struct event *event, uint32_t number)
+static void note_maker(struct verifier_lines *writing, struct event *event, uint32_t number)
 {
     struct sites *sites = writing->making->sites;
     const struct declared *declared = sites->declared;
@@ -432,7 +432,7 @@ static void note_maker(struct named_lines *writing, struct event *event, uint32_
     event->site = site_of(sites, number);
 }
 
-static void note_thread(struct named_lines *writing, const struct line *line)
+static void note_thread(struct verifier_lines *writing, const struct line *line)
 {
     uint32_t thread = 0, seat;
     struct event *event = new_event(writing, EVENT_THREAD, line);
@@ -450,7 +450,7 @@ static void note_thread(struct named_lines *writing, const struct line *line)
 /* Each word of which something is written or noted, those that are met most often first. */
 static const struct {
     const char *word;
-    void (*puts)(struct named_lines *writing, const struct line *line);
+    void (*puts)(struct verifier_lines *writing, const struct line *line);
 } words[] = {
     {WORD_CHECK, put_check},
     {WORD_LOCK, put_lock},
@@ -474,7 +474,7 @@ static const struct {
     {WORD_JOINED, note_single},
 };
 
-static void write_line(struct named_lines *writing, const struct line *line)
+static void write_line(struct verifier_lines *writing, const struct line *line)
 {
     for (size_t i = 0; i < sizeof words / sizeof *words; i++)
         if (field_is(line, 0, words[i].word)) {
@@ -483,16 +483,16 @@ static void write_line(struct named_lines *writing, const struct line *line)
         }
 }
 
-struct named_lines *named_lines_new(const struct making *making, struct notes *notes)
+struct verifier_lines *verifier_lines_new(const struct making *making, struct notes *notes)
 {
-    struct named_lines *writing = take(sizeof *writing);
+    struct verifier_lines *writing = take(sizeof *writing);
     writing->making = making;
     writing->notes = notes;
     writing->has_callers = notes->has_callers = making->frames > 1 || making->is_learnt;
     return writing;
 }
 
-void named_lines_end(struct named_lines *writing)
+void verifier_lines_end(struct verifier_lines *writing)
 {
     pairs_reading_end(&writing->pairs);
     lock_counts_end(&writing->counts);
@@ -502,7 +502,7 @@ void named_lines_end(struct named_lines *writing)
     free(writing);
 }
 
-bool named_lines_write(struct named_lines *writing, const char *at, const char *end, FILE *to)
+bool verifier_lines_write(struct verifier_lines *writing, const char *at, const char *end, FILE *to)
 {
     struct line line;
     writing->to = to;

@@ -1,4 +1,4 @@
-#include "made_locks.h"
+#include "stream_locks.h"
 
 #include "allocation.h"
 #include "type_names.h"

@@ -3,7 +3,7 @@
  * of `witness replay`, but for places: most have no line, and few people read offsets, so the function comes first. Beside
  * such a place the name of a type stands once.
  */
-#include "told_lines.h"
+#include "lock_lines.h"
 
 #include "judge_place.h"
 #include "names.h"

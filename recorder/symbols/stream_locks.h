@@ -1,8 +1,8 @@
 /*
  * The locks that a stream makes: what they are called.
  */
-#ifndef RECORD_MADE_LOCKS_H
-#define RECORD_MADE_LOCKS_H
+#ifndef RECORD_STREAM_LOCKS_H
+#define RECORD_STREAM_LOCKS_H
 
 #include "declarations.h"
 #include "types.h"
