@@ -62,7 +62,7 @@ if wanted rust cargo; then
     tell rust "locks in fields, which debug information has" $?
     printf '%s\n' '"RwLock<usize> (shelf.rs)" "Mutex<Vec<i32>> (shelf.rs)"' >list
     RECORD_FRAMES=8 "$record" --ignore list -- "$work/target/debug/examples/shelf" 2>&1 | tail -n 1 >told.fields
-    grep -q '^record: nothing in what was recorded: list silences 1 report; not seen: ' told.fields
+    grep -q '^record: nothing in what was recorded: list ignores 1 report; not seen: ' told.fields
     tell rust "and by their labels in the ignore file" $?
     # Each line of a trace stands where the real step can have been.
     options="-o kept" told contend "$work/target/release/examples/contend" && [ "$(cat recorded.out)" = "8000 2000 8000" ] && is_of_locks kept

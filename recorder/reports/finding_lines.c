@@ -84,7 +84,7 @@ static void read_report(struct reading *reading, const struct value *finding)
     read_lock(reading, finding, "asked");
     read_path(reading, finding);
     if (report->first > 0)
-        report_names_silence(report, reading->reports->notes);
+        report_names_ignore_line(report, reading->reports->notes);
 }
 
 static void read_bad(struct reading *reading, const struct value *finding)

@@ -113,10 +113,10 @@ static bool are_equal(const struct report *one, const struct report *other)
     return is_equal;
 }
 
-static struct finding *find_equal(struct findings *findings, const struct report *report, bool is_silenced)
+static struct finding *find_equal(struct findings *findings, const struct report *report, bool is_ignored)
 {
     for (size_t i = 0; i < findings->findings; i++)
-        if (findings->finding[i].is_silenced == is_silenced && are_equal(findings->finding[i].report, report))
+        if (findings->finding[i].is_ignored == is_ignored && are_equal(findings->finding[i].report, report))
             return &findings->finding[i];
     return NULL;
 }
@@ -132,18 +132,18 @@ static void grade(struct finding *finding, const struct alarm *alarm, const stru
     finding->single = alarm_text(alarm);
 }
 
-static void gather(struct findings *findings, const struct found *found, const struct reports *reports, bool is_silenced)
+static void gather(struct findings *findings, const struct found *found, const struct reports *reports, bool is_ignored)
 {
     for (size_t i = 0; i < reports->count; i++) {
         const struct report *report = &reports->report[i];
-        struct finding *finding = find_equal(findings, report, is_silenced);
+        struct finding *finding = find_equal(findings, report, is_ignored);
         if (!finding) {
             finding = &ADD(findings->finding, findings->findings, findings->finding_room);
-            *finding = (struct finding){.found = found, .report = report, .is_silenced = is_silenced};
+            *finding = (struct finding){.found = found, .report = report, .is_ignored = is_ignored};
             make_fingerprint(finding);
         }
         grade(finding, &report->alarm, report->schedule);
-        finding->counts = !is_silenced && alarm_counts(&findings->alarms, &finding->alarm);
+        finding->counts = !is_ignored && alarm_counts(&findings->alarms, &finding->alarm);
         if (finding->processes == 0 || finding->process[finding->processes - 1] != found->process)
             ADD(finding->process, finding->processes, finding->room) = found->process;
     }
@@ -157,11 +157,11 @@ void findings_gather(struct findings *findings)
     for (size_t i = 0; i < findings->count; i++) {
         struct found *found = &findings->found[i];
         found->reports.notes = &found->notes;
-        found->silenced.notes = &found->notes;
+        found->ignored.notes = &found->notes;
         gather(findings, found, &found->reports, false);
     }
     for (size_t i = 0; i < findings->count; i++)
-        gather(findings, &findings->found[i], &findings->found[i].silenced, true);
+        gather(findings, &findings->found[i], &findings->found[i].ignored, true);
 }
 
 static int by_thread(const void *left, const void *right)
@@ -194,7 +194,7 @@ void findings_end(struct findings *findings)
     for (size_t i = 0; i < findings->count; i++) {
         struct found *found = &findings->found[i];
         reports_end(&found->reports);
-        reports_end(&found->silenced);
+        reports_end(&found->ignored);
         notes_end(&found->notes);
         orders_end(&found->orders);
         free(found->program);

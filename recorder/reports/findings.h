@@ -20,7 +20,7 @@ struct found {
     long process; /* 0 where it stands for many runs */
     struct notes notes;
     struct reports reports;
-    struct reports silenced; /* what isn't told: by the user's ignore file, or as right in a library */
+    struct reports ignored; /* what isn't told: by the user's ignore file, or as right in a library */
     struct order_list orders;
     char *picture; /* of these, as SVG; NULL where none is drawn */
 };
@@ -29,7 +29,7 @@ struct found {
 struct finding {
     const struct found *found; /* the first of them */
     const struct report *report;
-    bool is_silenced;
+    bool is_ignored;
     long *process; /* their numbers */
     size_t processes, room;
     char fingerprint[17];            /* the same where lines have moved, and after another run */
@@ -69,7 +69,7 @@ struct found *findings_add(struct findings *findings, const char *program, long 
 /* A line that was told, of that process; 0 where it is of the whole run. What it begins with, `record: `, is left out. */
 void findings_tell(struct findings *findings, long process, const char *line);
 
-/* When all are there: makes the list of findings, equal ones as one, once. Those that are silenced come last. */
+/* When all are there: makes the list of findings, equal ones as one, once. Those that are ignored come last. */
 void findings_gather(struct findings *findings);
 
 /* The threads that are known of the process, each once: a list of one's own. */

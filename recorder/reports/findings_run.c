@@ -77,13 +77,13 @@ void findings_take(struct process *process)
         plan_finds_first_locks(process);
     found->notes = process->notes;
     found->reports = process->reports;
-    found->silenced = process->silenced;
+    found->ignored = process->ignored;
     process->notes = (struct notes){0};
-    process->reports = process->silenced = (struct reports){0};
-    found->reports.notes = found->silenced.notes = &found->notes;
+    process->reports = process->ignored = (struct reports){0};
+    found->reports.notes = found->ignored.notes = &found->notes;
     if (!run->settings.no_errors)
         take_errors(found);
-    grade_reports(&found->silenced, run->settings.grader, false);
+    grade_reports(&found->ignored, run->settings.grader, false);
 }
 
 /* A file that stands open, NULL where it can't be: whether it is written is said. */

@@ -303,8 +303,8 @@ static void write_report(struct objects *to, const struct finding *finding)
     for (size_t i = 0; i < finding->processes; i++)
         object_number(to, NULL, finding->process[i]);
     object_close(to, '[');
-    object_truth(to, "silenced", finding->is_silenced);
-    object_text(to, "silence", finding->report->silence);
+    object_truth(to, "silenced", finding->is_ignored);
+    object_text(to, "silence", finding->report->ignore_line);
     object_truth(to, "counts", finding->counts);
     write_single(to, finding);
     write_confirmed(to, finding->confirmed);

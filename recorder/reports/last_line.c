@@ -34,13 +34,13 @@ static char *end_of_program(const struct run *run)
     return copy("");
 }
 
-/* What the ignore file silences, where nothing is told. */
-static char *silenced(const struct run *run)
+/* What the ignore file has ignored, where nothing is told. */
+static char *ignored_by(const struct run *run)
 {
     if (run->ignored == 0)
         return copy("");
     char *reports = counted(run->ignored, "report", "s");
-    char *text = say_text(": %s silences %s", run->settings.ignore, reports);
+    char *text = say_text(": %s ignores %s", run->settings.ignore, reports);
     free(reports);
     return text;
 }
@@ -133,14 +133,14 @@ static bool tell_nothing(struct run *run, const char *so_far, const char *end)
     char *unseen = not_seen(run), *errors = but_errors(run), *known = known_orders(run, "; ");
     bool is_unseen = *unseen;
     if (run->partly || *end || is_unseen) {
-        char *without = silenced(run);
+        char *without = ignored_by(run);
         say(output, "%snothing in what was recorded%s%s%s%s%s%s", so_far, errors, *end ? ": " : "", end, without, known,
             unseen);
         free(without);
     } else if (run->shown == 0) {
         say(output, "%snothing to report%s: no thread asked for a lock while it held another", so_far, errors);
     } else {
-        char *without = silenced(run);
+        char *without = ignored_by(run);
         if (run->unclean)
             say(output, "%snot clean: %s", so_far, run->unclean);
         else

@@ -8,7 +8,6 @@
 
 #include "files.h"
 #include "findings_run.h"
-#include "ignore.h"
 #include "allocation.h"
 #include "orders_file.h"
 #include "orders_verdict.h"
@@ -65,46 +64,13 @@ void learn_check(const struct settings *settings)
     else if (is_asked(settings->learn) && !is_writable(path))
         refuse_target("%s can't be written: %s", file, strerror(errno));
     if (!is_written_to && (!is_asked(settings->learn) || is_there(path)))
-        why = learnt_read(&learnt, path);
+        why = learnt_read(&learnt, settings->witness, (char *[]){path, NULL}, NULL);
+    if (why && learnt.has_failed)
+        fail("%s", why);
     if (why)
         refuse_target("%s", why);
     learnt_end(&learnt);
     free(path);
-}
-
-/* The run's orders come after those that are known. */
-static void join(struct ending_run *ending, const struct learnt *met)
-{
-    struct learnt *learnt = &ending->learnt;
-    for (size_t i = 0; i < met->orders; i++) {
-        const struct learnt_order *mine = &met->order[i];
-        struct order_words words;
-        char *line = say_text("%s%s%s", mine->key, *mine->origin ? "\t# " : "", mine->origin);
-        size_t known = learnt->orders;
-        if (!order_parted(&words, line, strlen(line))) {
-            struct learnt_order *order = learnt_add(learnt, &words);
-            order->is_new = learnt->orders > known;
-            order->is_met = true;
-            order->is_told = mine->is_told;
-            order->runs++;
-            order->last = learnt->runs + 1;
-            if (order->is_new)
-                learnt_tell_here(learnt, order, mine->asked, mine->held);
-        }
-        free(line);
-    }
-    learnt->runs++;
-}
-
-static void bless(struct ending_run *ending)
-{
-    struct ignore ignore;
-    if (!is_asked(ending->run->settings.ignore))
-        return;
-    ignore_read(&ignore, ending->run->settings.ignore);
-    for (size_t i = 0; i < ignore.pairs; i++)
-        learnt_bless(&ending->learnt, ignore.pair[i].first, ignore.pair[i].second);
-    ignore_end(&ignore);
 }
 
 /* For the files that are written of the run's reports. */
@@ -160,9 +126,8 @@ static void tell_reports_of(struct ending_run *ending)
 static void tell_new(struct ending_run *ending)
 {
     struct run *run = ending->run;
-    size_t *sorted = learnt_sorted(&ending->learnt);
     for (size_t i = 0; i < ending->learnt.orders; i++) {
-        const struct learnt_order *order = &ending->learnt.order[sorted[i]];
+        const struct learnt_order *order = &ending->learnt.order[i];
         ending->added += order->is_new && !order->is_against;
         if (!order->is_new || (!order->is_against && is_asked(run->settings.learn)))
             continue;
@@ -171,7 +136,6 @@ static void tell_new(struct ending_run *ending)
         tell(&run->output, line, strlen(line));
         free(line);
     }
-    free(sorted);
 }
 
 static void tell_summary(struct ending_run *ending)
@@ -205,9 +169,8 @@ static void tell_failure(struct ending_run *ending, const char *why)
 static void judge_and_tell(struct ending_run *ending)
 {
     struct run *run = ending->run;
-    if (run->learning)
-        join(ending, &run->learning->met);
-    bless(ending);
+    if (is_asked(run->settings.ignore))
+        learnt_bless(&ending->learnt, run->settings.ignore);
     learnt_judge(&ending->learnt, run->settings.witness, &ending->judgement);
     if (ending->judgement.failed) {
         tell_failure(ending, ending->judgement.failed);
@@ -241,7 +204,8 @@ void learn_tell(struct run *run)
     } else {
         /* Other runs may have written to it since this one began. */
         bool has_known = !is_learnt || (is_there(ending.path) && !written_is_special(ending.path));
-        char *why = has_known ? learnt_read(&ending.learnt, ending.path) : NULL;
+        char *files[] = {has_known ? ending.path : NULL, NULL};
+        char *why = learnt_read(&ending.learnt, run->settings.witness, files, run->learning ? &run->learning->met : NULL);
         if (why)
             tell_failure(&ending, why);
         else

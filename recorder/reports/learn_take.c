@@ -5,16 +5,15 @@
 
 #include "allocation.h"
 #include "order_place.h"
-
-#define NAMELESS SIZE_MAX
+#include "texts.h"
 
 /* A process, and what is known of it by now. */
 struct taking {
     const struct process *process;
     struct learning *learning;
-    size_t *type;     /* by locks: the number of the type among those that the run met */
-    struct map named; /* by classes and types: 1 where no name lasts, else the number and 2 */
-    char *run;        /* what the run is called */
+    const char **type; /* by locks: CLASS "NAME" of the type, NULL where no name lasts */
+    struct map named;  /* by classes and types: the number of the first lock, from 1 on */
+    char *run;         /* what the run is called */
 };
 
 /* The build of one of these objects isn't known. */
@@ -36,21 +35,18 @@ static char *lasting_name(const struct taking *taking, const char *name)
     return copy(name);
 }
 
-/*
- * The number of the lock's type by its name that lasts; by that and its build, where it lasts no longer than the
- * build.
- */
-static size_t type_of(struct taking *taking, const struct lock_name *lock)
+/* The lock's type by its name that lasts; by that and its build, where it lasts no longer than the build. */
+static const char *type_of(struct taking *taking, const struct lock_name *lock)
 {
     const struct alias *alias = notes_alias(&taking->process->notes, lock->type);
     const struct lasting *lasting = alias ? &alias->lasting : NULL;
     if (!lasting || !lasting->name || (!lasting->lasts && has_unknown(lasting->build_id)))
-        return NAMELESS;
+        return NULL;
     char *name = lasting_name(taking, lasting->name);
-    char *whole = lasting->lasts ? copy(name) : say_text("%s (build %s)", name, lasting->build_id);
-    size_t type = learnt_type(&taking->learning->met, lock->class, whole);
+    const char *build = lasting->lasts ? "" : lasting->build_id;
+    const char *type = texts_say(taking->learning->met.texts, *build ? "%s \"%s (build %s)\"" : "%s \"%s%s\"",
+        lock->class, name, build);
     free(name);
-    free(whole);
     return type;
 }
 
@@ -61,12 +57,10 @@ static void type_locks(struct taking *taking)
     taking->type = take((notes->locks + 1) * sizeof *taking->type);
     for (size_t i = 0; i < notes->locks; i++) {
         char *word = say_text("%s %s", notes->lock[i].class, notes->lock[i].type);
-        size_t *known = map_add_text(&taking->named, word);
-        if (*known == 0) {
-            size_t type = type_of(taking, &notes->lock[i]);
-            *known = type == NAMELESS ? 1 : type + 2;
-        }
-        taking->type[i] = *known == 1 ? NAMELESS : *known - 2;
+        size_t *first = map_add_text(&taking->named, word);
+        taking->type[i] = *first ? taking->type[*first - 1] : type_of(taking, &notes->lock[i]);
+        if (*first == 0)
+            *first = i + 1;
         free(word);
     }
 }
@@ -76,39 +70,28 @@ static bool is_allowed(const struct taking *taking, unsigned held, unsigned aske
 {
     const struct notes *notes = &taking->process->notes;
     const char *one = notes->lock[held - 1].type, *other = notes->lock[asked - 1].type;
-    return strcmp(one, other) != 0 && peace_of(&notes->peace, one, other) != PEACE_NONE;
+    return strcmp(one, other) != 0 && why_ignored(&notes->ignored, one, other) != NOT_IGNORED;
 }
 
-/*
- * The line of the order in a file; without its origin where there is no room for that. NULL where no file can have it.
- */
-static char *line_of(const struct taking *taking, size_t from, size_t to, const char *asked, const char *held)
+/* The order as a file has it; without its origin where there is no room for that. NULL where no file can have it. */
+static struct learnt_order *add_line(const struct taking *taking, const char *key, const char *asked, const char *held)
 {
-    const struct learnt_type *type = taking->learning->met.type;
-    struct order_words words;
-    char *line = say_text("%s > %s\t# %s while %s, %s", type[from].text, type[to].text, asked, held, taking->run);
-    if (strlen(line) > ORDER_LINE_MOST) {
-        free(line);
-        line = say_text("%s > %s", type[from].text, type[to].text);
-    }
-    if (!order_parted(&words, line, strlen(line)))
-        return line;
+    struct learnt *met = &taking->learning->met;
+    char *line = say_text("%s\t# %s while %s, %s", key, asked, held, taking->run);
+    struct learnt_order *order = learnt_add(met, line);
     free(line);
-    return NULL;
+    return order ? order : learnt_add(met, key);
 }
 
-static void add_order(struct taking *taking, size_t from, size_t to, size_t held_at, size_t asked_at)
+static void add_order(struct taking *taking, const char *key, size_t held_at, size_t asked_at)
 {
     struct learning *learning = taking->learning;
     const struct notes *notes = &taking->process->notes;
-    struct order_words words;
-    if (learnt_find(&learning->met, from, to))
-        return;
     char *asked = order_place(notes, asked_at, false), *held = order_place(notes, held_at, false);
-    char *line = line_of(taking, from, to, asked, held);
-    if (line && !order_parted(&words, line, strlen(line))) {
+    struct learnt_order *order = add_line(taking, key, asked, held);
+    if (order) {
         struct here asked_here = here_of(notes, asked_at), held_here = here_of(notes, held_at);
-        learnt_tell_here(&learning->met, learnt_add(&learning->met, &words), asked_here, held_here);
+        learnt_tell_here(&learning->met, order, asked_here, held_here);
         here_end(&asked_here);
         here_end(&held_here);
     } else {
@@ -116,12 +99,11 @@ static void add_order(struct taking *taking, size_t from, size_t to, size_t held
     }
     free(asked);
     free(held);
-    free(line);
 }
 
 static void note_nameless(struct taking *taking, unsigned lock)
 {
-    if (taking->type[lock - 1] == NAMELESS)
+    if (!taking->type[lock - 1])
         *map_add_text(&taking->learning->nameless, taking->process->notes.lock[lock - 1].type) = 1;
 }
 
@@ -130,25 +112,32 @@ static bool is_known(const struct taking *taking, unsigned lock)
     return lock > 0 && lock <= taking->process->notes.locks;
 }
 
+/* The order of two types; NULL where one has no name, or they are one. */
+static char *key_of(const char *from, const char *to)
+{
+    return from && to && strcmp(from, to) != 0 ? say_text("%s > %s", from, to) : NULL;
+}
+
 static void take_pair(struct taking *taking, const struct lock_pair *pair)
 {
     if (!is_known(taking, pair->held) || !is_known(taking, pair->asked) || is_allowed(taking, pair->held, pair->asked))
         return;
-    size_t from = taking->type[pair->held - 1], to = taking->type[pair->asked - 1];
     note_nameless(taking, pair->held);
     note_nameless(taking, pair->asked);
-    if (from != NAMELESS && to != NAMELESS && from != to)
-        add_order(taking, from, to, pair->held_at, pair->asked_at);
+    char *key = key_of(taking->type[pair->held - 1], taking->type[pair->asked - 1]);
+    if (key && !learnt_find(&taking->learning->met, key))
+        add_order(taking, key, pair->held_at, pair->asked_at);
+    free(key);
 }
 
-/* The number of the type that has the name; NAMELESS where there is none. */
-static size_t type_called(const struct taking *taking, const char *name)
+/* The type that has the name; NULL where there is none. */
+static const char *type_called(const struct taking *taking, const char *name)
 {
     const struct notes *notes = &taking->process->notes;
     for (size_t i = 0; name && i < notes->locks; i++)
         if (strcmp(notes->lock[i].type, name) == 0)
             return taking->type[i];
-    return NAMELESS;
+    return NULL;
 }
 
 /* What the run itself reports needn't be told again. */
@@ -159,12 +148,12 @@ static void note_reports(struct taking *taking)
         const struct report *report = &reports->report[i];
         if (report->kind != REPORT_REVERSAL || report->first == 0)
             continue;
-        size_t from = type_called(taking, report->line[report->first].type);
-        size_t to = type_called(taking, report->line[report->last].type);
-        struct learnt_order *order =
-            from != NAMELESS && to != NAMELESS ? learnt_find(&taking->learning->met, from, to) : NULL;
+        char *key = key_of(type_called(taking, report->line[report->first].type),
+            type_called(taking, report->line[report->last].type));
+        struct learnt_order *order = key ? learnt_find(&taking->learning->met, key) : NULL;
         if (order)
             order->is_told = true;
+        free(key);
     }
 }
 
@@ -185,6 +174,8 @@ void learn_take(struct process *process)
         return;
     if (!run->learning)
         run->learning = take(sizeof *run->learning);
+    if (!run->learning->met.texts)
+        run->learning->met.texts = texts_new();
     struct taking taking = {.process = process, .learning = run->learning};
     const struct lock_pairs *pairs = &process->notes.pairs;
     taking.run = run_name(process);

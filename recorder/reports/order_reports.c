@@ -58,24 +58,21 @@ static void add_lock(struct reports *reports, const struct learnt_type *type, si
     reports_add_lock(reports, &lock, spot);
 }
 
-static void add_locks(struct reports *reports, struct notes *notes, const struct learnt *learnt,
-    const struct learnt_order *order)
+static void add_locks(struct reports *reports, struct notes *notes, const struct learnt_order *order)
 {
     char *held, *asked;
     places_of(order, &held, &asked);
-    add_lock(reports, &learnt->type[order->from], spot(notes, held, order->held.site));
-    add_lock(reports, &learnt->type[order->to], spot(notes, asked, order->asked.site));
+    add_lock(reports, &order->from, spot(notes, held, order->held.site));
+    add_lock(reports, &order->to, spot(notes, asked, order->asked.site));
     free(held);
     free(asked);
 }
 
-static void add_step(struct reports *reports, struct notes *notes, const struct learnt *learnt,
-    const struct learnt_order *order)
+static void add_step(struct reports *reports, struct notes *notes, const struct learnt_order *order)
 {
     char *held, *asked;
     places_of(order, &held, &asked);
-    reports_add_step(reports, learnt->type[order->from].name, learnt->type[order->to].name,
-        spot(notes, asked, order->asked.site));
+    reports_add_step(reports, order->from.name, order->to.name, spot(notes, asked, order->asked.site));
     free(held);
     free(asked);
 }
@@ -86,9 +83,9 @@ void order_report(struct reports *reports, struct notes *notes, const struct lea
     reports->notes = notes;
     notes->has_callers = true;
     struct report *report = reports_add(reports, REPORT_REVERSAL, "lock order reversal:");
-    add_locks(reports, notes, learnt, &learnt->order[order]);
+    add_locks(reports, notes, &learnt->order[order]);
     reports_add_words(reports, "established order:");
     for (size_t i = 0; i < count; i++)
-        add_step(reports, notes, learnt, &learnt->order[way[i]]);
-    report_names_silence(report, notes);
+        add_step(reports, notes, &learnt->order[way[i]]);
+    report_names_ignore_line(report, notes);
 }

@@ -8,8 +8,8 @@
 #include <unistd.h>
 
 #include "files.h"
-#include "ignore.h"
 #include "allocation.h"
+#include "orders_asked.h"
 #include "orders_file.h"
 #include "orders_verdict.h"
 #include "output_files.h"
@@ -85,15 +85,21 @@ static char **read_options(struct wanted *wanted, char **words, bool is_judge)
     return words;
 }
 
-static void read_files(struct learnt *learnt, char **files)
+/* Ends where there is a reason to: `done` is what isn't done then. */
+static void end_for(const char *why, bool has_failed, const char *done)
+{
+    if (why && has_failed)
+        fail("%s: nothing is %s", why, done);
+    if (why)
+        refuse_target("%s", why);
+}
+
+static void read_files(struct learnt *learnt, const char *witness, char **files, const char *done)
 {
     if (!*files)
         refuse("no file is named");
-    for (; *files; files++) {
-        char *why = learnt_read(learnt, *files);
-        if (why)
-            refuse_target("%s", why);
-    }
+    const char *why = learnt_read(learnt, witness, files, NULL);
+    end_for(why, learnt->has_failed, done);
 }
 
 /* What was written to standard output is there, or it is told that it isn't. */
@@ -105,7 +111,7 @@ static int status_of_output(int status)
     return FAILED;
 }
 
-static int merge(char **words)
+static int merge(const char *witness, char **words)
 {
     struct learnt learnt = {0};
     struct wanted wanted;
@@ -114,7 +120,7 @@ static int merge(char **words)
     int lock = -1;
     if (path && !learnt_lock(path, &lock))
         fail("%s.lock can't be written: %s", path, strerror(errno));
-    read_files(&learnt, files);
+    read_files(&learnt, witness, files, "merged");
     if (path)
         why = learnt_write(&learnt, path);
     else
@@ -124,16 +130,6 @@ static int merge(char **words)
     free(path);
     learnt_end(&learnt);
     return status_of_output(0);
-}
-
-static void bless(struct learnt *learnt, const char *path)
-{
-    struct ignore ignore;
-    prepare_files(&(struct settings){.ignore = path});
-    ignore_read(&ignore, path);
-    for (size_t i = 0; i < ignore.pairs; i++)
-        learnt_bless(learnt, ignore.pair[i].first, ignore.pair[i].second);
-    ignore_end(&ignore);
 }
 
 static char *counted(unsigned long number, const char *what, const char *many)
@@ -149,16 +145,16 @@ static size_t count_blessed(const struct learnt *learnt)
     return blessed;
 }
 
-/* What is known of all orders, as a text of one's own. Of those in peace nothing is. */
+/* What is known of all orders, as a text of one's own. Of those that are ignored nothing is. */
 static char *verdict_of(const struct learnt *learnt, const struct judgement *judgement)
 {
-    const char *peace = count_blessed(learnt) > 0 ? " and those in peace" : "";
+    const char *ignored = count_blessed(learnt) > 0 ? " and the ignored ones" : "";
     const char *alone = judgement->against == 1 ? "it" : "these";
     if (judgement->against > 0)
         return say_text("%zu order%s against others, and no circle without %s%s", judgement->against,
-            judgement->against == 1 ? "" : "s", alone, peace);
-    if (*peace)
-        return copy("no circle without those in peace");
+            judgement->against == 1 ? "" : "s", alone, ignored);
+    if (*ignored)
+        return copy("no circle without the ignored ones");
     return copy("clean: threads that ask for nothing but these orders never wait for one another in a circle "
                 "(docs/PROOFS.md)");
 }
@@ -167,7 +163,7 @@ static char *verdict_of(const struct learnt *learnt, const struct judgement *jud
 static char *summary_of(const struct learnt *learnt, const struct judgement *judgement)
 {
     char *verdict = verdict_of(learnt, judgement);
-    char *orders = counted(learnt->orders, "order", "s"), *types = counted(learnt->types, "type", "s");
+    char *orders = counted(learnt->orders, "order", "s"), *types = counted(learnt->types.count, "type", "s");
     char *runs = counted(learnt->runs, "run", "s");
     char *summary = say_text("%s: %s, %s, %s", verdict, orders, types, runs);
     free(verdict);
@@ -185,23 +181,24 @@ static int tell(const struct learnt *learnt, const struct judgement *judgement, 
         report_write(stdout, &judgement->reports.report[i], false, suppressions);
     size_t blessed = count_blessed(learnt);
     if (blessed > 0)
-        printf("orders: %zu of them %s left in peace\n", blessed, blessed == 1 ? "is" : "are");
+        printf("orders: %zu of them %s ignored\n", blessed, blessed == 1 ? "is" : "are");
     printf("orders: %s\n", summary);
     return status;
 }
 
-static int judge(const char *here, char **words)
+static int judge(const char *witness, char **words)
 {
     struct learnt learnt = {0};
     struct wanted wanted;
     struct judgement judgement;
-    const char *witness = judge_of(here, "WITNESS", "witness");
     char **files = read_options(&wanted, words, true);
     wanted.drawing.witness = witness;
     drawing_check(&wanted.drawing);
-    read_files(&learnt, files);
-    if (wanted.ignore)
-        bless(&learnt, wanted.ignore);
+    read_files(&learnt, witness, files, "judged");
+    if (wanted.ignore) {
+        prepare_files(&(struct settings){.ignore = wanted.ignore});
+        learnt_bless(&learnt, wanted.ignore);
+    }
     learnt_judge(&learnt, witness, &judgement);
     if (judgement.failed)
         fail("%s: nothing is judged", judgement.failed);
@@ -215,49 +212,46 @@ static int judge(const char *here, char **words)
     return status_of_output(status);
 }
 
-/* The orders of a type stand together where they are sorted. */
-static int tell_text(char **words)
+/* What the program makes of the files. */
+static void ask_of(struct orders_asked *asked, const char *witness, const char *word, const char *number, char **files)
 {
-    struct learnt learnt = {0};
+    if (!*files)
+        refuse("no file is named");
+    asked_begin(asked, witness, word, number);
+    for (; *files; files++)
+        asked_file(asked, *files);
+    const char *why = asked_answer(asked);
+    end_for(why, asked->has_failed, "told");
+}
+
+static int tell_text(const char *witness, char **words)
+{
+    struct orders_asked asked;
     struct wanted wanted;
-    read_files(&learnt, read_options(&wanted, words, false));
-    size_t *sorted = learnt_sorted(&learnt);
-    for (size_t i = 0; i < learnt.orders; i++) {
-        const struct learnt_order *order = &learnt.order[sorted[i]];
-        const char *origin = order->origin, *end = strstr(origin, " while ");
-        if (i == 0 || learnt.order[sorted[i - 1]].from != order->from)
-            printf("%s\n", learnt.type[order->from].text);
-        printf("    %s%s%.*s\n", learnt.type[order->to].text, *origin ? "  # " : "",
-            (int)(end ? end - origin : (ptrdiff_t)strlen(origin)), origin);
-    }
-    free(sorted);
-    learnt_end(&learnt);
+    ask_of(&asked, witness, "text", NULL, read_options(&wanted, words, false));
+    fwrite(asked.told, 1, asked.length, stdout);
+    asked_end(&asked);
     return status_of_output(0);
 }
 
-static int tell_unseen(char **words)
+/* Its last line counts, and isn't for people. */
+static int tell_unseen(const char *witness, char **words)
 {
-    struct learnt learnt = {0};
-    char *end = NULL;
-    unsigned long within = *words && **words >= '1' && **words <= '9' ? strtoul(*words, &end, 10) : 0;
-    if (within == 0 || *end)
+    struct orders_asked asked;
+    unsigned long unseen, orders, unknown;
+    if (!*words || **words < '1' || **words > '9' || (*words)[strspn(*words, "0123456789")])
         refuse("unseen takes a number of runs first, not %s", *words ? *words : "nothing");
-    read_files(&learnt, words + 1);
-    size_t *sorted = learnt_sorted(&learnt), unseen = 0, unknown = 0;
-    for (size_t i = 0; i < learnt.orders; i++) {
-        const struct learnt_order *order = &learnt.order[sorted[i]];
-        unknown += order->last == 0;
-        if (order->last == 0 || learnt.runs - order->last < within)
-            continue;
-        printf("%s\t# %lu runs ago\n", order->key, learnt.runs - order->last);
-        unseen++;
-    }
+    ask_of(&asked, witness, "unseen", *words, words + 1);
+    char *last = asked.length > 0 ? memrchr(asked.told, '\n', asked.length - 1) : NULL;
+    last = last ? last + 1 : asked.told;
+    if (sscanf(last, "unseen: %lu of %lu orders, unknown: %lu", &unseen, &orders, &unknown) != 3)
+        fail("%s answers something else than the orders", witness);
+    fwrite(asked.told, 1, (size_t)(last - asked.told), stdout);
     if (unknown > 0)
         fprintf(stderr,
-            "orders: of %zu orders the runs weren't counted one by one, so it isn't known when they were met last\n",
+            "orders: of %lu orders the runs weren't counted one by one, so it isn't known when they were met last\n",
             unknown);
-    free(sorted);
-    learnt_end(&learnt);
+    asked_end(&asked);
     return status_of_output(unseen > 0 ? FOUND : 0);
 }
 
@@ -270,7 +264,7 @@ int orders_command(const char *here, char **words)
      */
     signal(SIGPIPE, SIG_IGN);
     signal(SIGXFSZ, SIG_IGN);
-    const char *word = *words ? *words : "";
+    const char *word = *words ? *words : "", *witness = judge_of(here, "WITNESS", "witness");
     if (strcmp(word, "--help") == 0 || strcmp(word, "-h") == 0) {
         fputs(text, stdout);
         return status_of_output(0);
@@ -280,12 +274,12 @@ int orders_command(const char *here, char **words)
         return status_of_output(0);
     }
     if (strcmp(word, "judge") == 0)
-        return judge(here, words + 1);
+        return judge(witness, words + 1);
     if (strcmp(word, "merge") == 0)
-        return merge(words + 1);
+        return merge(witness, words + 1);
     if (strcmp(word, "text") == 0)
-        return tell_text(words + 1);
+        return tell_text(witness, words + 1);
     if (strcmp(word, "unseen") == 0)
-        return tell_unseen(words + 1);
+        return tell_unseen(witness, words + 1);
     refuse("%s is none of judge, merge, text, unseen, learn and known", *word ? word : "nothing");
 }

@@ -10,8 +10,12 @@
 
 #include "run_orders.h"
 
-/* Adds the file's orders, and its runs. Why it can't be read, as a text of one's own; NULL where it was. */
-char *learnt_read(struct learnt *learnt, const char *path);
+/*
+ * Reads the files' orders, and their runs, by `witness orders merge`; and those that a run met, unless that is NULL: they
+ * are new where no file has them. They come by their keys in the C locale. Why they can't be read, as a text of one's
+ * own; NULL where they were.
+ */
+char *learnt_read(struct learnt *learnt, const char *witness, char *const *files, const struct learnt *met);
 
 /* The file that is meant where the path is a link; else the path: a text of one's own. */
 char *learnt_path(const char *path);
@@ -29,7 +33,7 @@ bool learnt_lock(const char *path, int *lock);
  */
 char *learnt_write(const struct learnt *learnt, const char *path);
 
-/* Writes the orders' lines, sorted by their keys in the C locale. */
+/* Writes the orders' lines. */
 void learnt_print(FILE *to, const struct learnt *learnt);
 
 #endif

@@ -7,9 +7,9 @@
 #include "allocation.h"
 #include "files.h"
 #include "order_reports.h"
-#include "verdict.h"
+#include "orders_asked.h"
 
-enum { FOUND = 1, NOT_RUN = 126, NOT_FOUND = 127, FEED_BYTES = 1 << 16, INSET = 4 };
+enum { INSET = 4 };
 
 static int by_trust(const void *one, const void *other, void *with)
 {
@@ -20,11 +20,12 @@ static int by_trust(const void *one, const void *other, void *with)
         return left->is_new ? 1 : -1;
     if (left->runs != right->runs)
         return left->runs > right->runs ? -1 : 1;
-    /* New ones stay as the run asked for them. */
-    return left->is_new ? (first > second) - (first < second) : strcmp(left->key, right->key);
+    /* New ones stay as the run asked for them, and others by their keys. */
+    size_t one_at = left->is_new ? left->asked_as : first, other_at = right->is_new ? right->asked_as : second;
+    return (one_at > other_at) - (one_at < other_at);
 }
 
-/* The numbers of the orders that aren't left in peace, in the sequence of judging: a list of one's own. */
+/* The numbers of the orders that aren't left in ignored, in the sequence of judging: a list of one's own. */
 static size_t *in_sequence(struct learnt *learnt, size_t *count)
 {
     size_t *sequence = take(learnt->orders * sizeof *sequence);
@@ -35,26 +36,6 @@ static size_t *in_sequence(struct learnt *learnt, size_t *count)
     if (*count > 0)
         qsort_r(sequence, *count, sizeof *sequence, by_trust, learnt);
     return sequence;
-}
-
-/* Many lines go together. */
-static void feed(struct verdict *verdict, const struct learnt *learnt, const size_t *sequence, size_t count)
-{
-    char *bytes = take(FEED_BYTES);
-    size_t length = 0;
-    for (size_t i = 0; i < count; i++) {
-        const char *key = learnt->order[sequence[i]].key;
-        size_t more = strlen(key);
-        if (length + more + 1 > FEED_BYTES) {
-            verdict_feed(verdict, bytes, length);
-            length = 0;
-        }
-        memcpy(bytes + length, key, more);
-        length += more;
-        bytes[length++] = '\n';
-    }
-    verdict_feed(verdict, bytes, length);
-    free(bytes);
 }
 
 /* An order that is told, and the way back. */
@@ -78,15 +59,16 @@ static void end_circle(struct judgement *judgement, struct learnt *learnt, struc
 static bool read_line(struct judgement *judgement, struct learnt *learnt, struct circle *circle, const char *line)
 {
     bool is_step = strncmp(line, "    ", INSET) == 0;
-    size_t number = map_find_text(&learnt->order_of, is_step ? line + INSET : line);
-    if (number == 0 || (is_step && !circle->is_begun))
+    const struct learnt_order *order = learnt_find(learnt, is_step ? line + INSET : line);
+    if (!order || (is_step && !circle->is_begun))
         return false;
+    size_t number = (size_t)(order - learnt->order);
     if (is_step) {
-        ADD(circle->way, circle->count, circle->room) = number - 1;
+        ADD(circle->way, circle->count, circle->room) = number;
         return true;
     }
     end_circle(judgement, learnt, circle);
-    circle->order = number - 1;
+    circle->order = number;
     circle->is_begun = true;
     return true;
 }
@@ -108,25 +90,17 @@ static bool read_told(struct judgement *judgement, struct learnt *learnt, char *
 
 void learnt_judge(struct learnt *learnt, const char *witness, struct judgement *judgement)
 {
-    struct verdict verdict;
-    char *told = NULL;
-    size_t length = 0, count = 0, *sequence = in_sequence(learnt, &count);
-    FILE *answer = open_memstream(&told, &length);
-    if (!answer)
-        abort();
+    struct orders_asked asked;
+    size_t count = 0, *sequence = in_sequence(learnt, &count);
     *judgement = (struct judgement){0};
-    verdict_ask(&verdict, (const char *const[]){witness, "orders", "judge", NULL}, answer);
-    feed(&verdict, learnt, sequence, count);
-    int status = verdict_end(&verdict);
-    fclose(answer);
+    asked_begin(&asked, witness, "judge", NULL);
+    for (size_t i = 0; i < count; i++)
+        asked_line(&asked, learnt->order[sequence[i]].key);
     free(sequence);
-    if (status == NOT_RUN || status == NOT_FOUND)
-        judgement->failed = say_text("%s can't be run", witness);
-    else if (status > FOUND)
-        judgement->failed = say_text("%s doesn't accept the orders, by status %d", witness, status);
-    else if (!read_told(judgement, learnt, told, count))
+    judgement->failed = asked_answer(&asked);
+    if (!judgement->failed && !read_told(judgement, learnt, asked.told, count))
         judgement->failed = say_text("%s answers something else than what is against them", witness);
-    free(told);
+    asked_end(&asked);
 }
 
 void judgement_end(struct judgement *judgement)

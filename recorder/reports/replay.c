@@ -26,27 +26,27 @@ static bool wants_orders(const struct process *process)
 }
 
 /* Why nothing is told of the report. */
-static enum peace_cause peace_of_report(const struct report *report, const struct peace *peace)
+static enum ignored_cause cause_of(const struct report *report, const struct ignored *ignored)
 {
     if ((report->kind != REPORT_REVERSAL && report->kind != REPORT_DUPLICATE) || report->first == 0)
-        return PEACE_NONE;
-    return peace_of(peace, report->line[report->first].type, report->line[report->last].type);
+        return NOT_IGNORED;
+    return why_ignored(ignored, report->line[report->first].type, report->line[report->last].type);
 }
 
 /* Parts what isn't to be told from the rest. The verifier knows nothing of that: it would know the same of the locks. */
-static void part_silenced(struct process *process)
+static void part_ignored(struct process *process)
 {
-    struct reports *reports = &process->reports, *silenced = &process->silenced;
+    struct reports *reports = &process->reports, *ignored = &process->ignored;
     size_t count = reports->count;
-    silenced->notes = reports->notes;
+    ignored->notes = reports->notes;
     reports->count = 0;
     for (size_t i = 0; i < count; i++) {
         struct report report = reports->report[i];
-        report.peace = peace_of_report(&report, &process->notes.peace);
-        if (report.peace == PEACE_NONE)
+        report.ignored = cause_of(&report, &process->notes.ignored);
+        if (report.ignored == NOT_IGNORED)
             reports->report[reports->count++] = report;
         else
-            ADD(silenced->report, silenced->count, silenced->room) = report;
+            ADD(ignored->report, ignored->count, ignored->room) = report;
     }
 }
 
@@ -134,7 +134,7 @@ void replay(struct process *process)
     free(told);
     if (process->state.bads > 0)
         process->status = BAD_LINES;
-    part_silenced(process);
+    part_ignored(process);
 }
 
 bool trace_is_written(const struct process *process, const char *path)

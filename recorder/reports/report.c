@@ -181,13 +181,13 @@ static const char *stable(const struct notes *notes, const char *type)
 }
 
 /* The last two locks of a reversal are those whose types are at odds. */
-void report_names_silence(struct report *report, const struct notes *notes)
+void report_names_ignore_line(struct report *report, const struct notes *notes)
 {
     const char *last = stable(notes, report->line[report->last].type);
     if (report->kind == REPORT_DUPLICATE)
-        report->silence = say_text("\"%s\"", last);
+        report->ignore_line = say_text("\"%s\"", last);
     else
-        report->silence = say_text("\"%s\" \"%s\"", stable(notes, report->line[report->first].type), last);
+        report->ignore_line = say_text("\"%s\" \"%s\"", stable(notes, report->line[report->first].type), last);
 }
 
 unsigned long reports_counted(const struct reports *reports)
@@ -225,7 +225,7 @@ void reports_end(struct reports *reports)
         for (size_t j = 0; j < report->lines; j++)
             free_line(&report->line[j]);
         free(report->line);
-        free(report->silence);
+        free(report->ignore_line);
         schedule_end(report->schedule);
     }
     free(reports->report);

@@ -53,10 +53,10 @@ struct report {
     size_t lines, room;
     size_t first, last; /* the numbers of the lines of the two locks whose types are at odds; 0 where there is none */
     bool is_over;       /* the thread that waited for itself went on */
-    char *silence;      /* the line of an ignore file that would silence it; NULL where none would */
-    enum peace_cause peace;    /* why it isn't told */
-    struct alarm alarm;        /* how much it is to be feared, once the reports are graded (grades.h) */
-    struct schedule *schedule; /* how its threads come to hang; NULL where no single locks were taken both ways */
+    char *ignore_line;  /* the line of an ignore file that would have it ignored; NULL where none would */
+    enum ignored_cause ignored; /* why it isn't told */
+    struct alarm alarm;         /* how much it is to be feared, once the reports are graded (grades.h) */
+    struct schedule *schedule;  /* how its threads come to hang; NULL where no single locks were taken both ways */
 };
 
 /* The texts and numbers point into the notes. */
@@ -76,8 +76,8 @@ void reports_add_step(struct reports *reports, const char *from, const char *int
 struct report_line *reports_add_line(struct reports *reports, enum line_kind kind, const char *heading, size_t spot,
     const char *site);
 
-/* Gives a reversal or a duplicate, which has all its locks, the line that would silence it. */
-void report_names_silence(struct report *report, const struct notes *notes);
+/* Gives a reversal or a duplicate, which has all its locks, the line that would have it ignored. */
+void report_names_ignore_line(struct report *report, const struct notes *notes);
 
 /* How many there are of the verifier's, and how many circles. */
 unsigned long reports_counted(const struct reports *reports);

@@ -64,12 +64,12 @@ static void write_callers(FILE *to, const struct report *report)
     }
 }
 
-void report_write(FILE *to, const struct report *report, bool with_callers, bool with_silence)
+void report_write(FILE *to, const struct report *report, bool with_callers, bool with_ignore_line)
 {
     for (size_t i = 0; i < report->lines; i++)
         fprintf(to, "%s\n", report->line[i].text);
     if (with_callers)
         write_callers(to, report);
-    if (with_silence && report->silence)
-        fprintf(to, "%s\n", report->silence);
+    if (with_ignore_line && report->ignore_line)
+        fprintf(to, "%s\n", report->ignore_line);
 }

@@ -44,10 +44,9 @@ static char *site_of(const struct learnt_order *order)
 
 static void add_orders(struct order_list *orders, const struct learnt *learnt, const struct reports *reports)
 {
-    size_t *sorted = learnt_sorted(learnt);
     for (size_t i = 0; i < learnt->orders; i++) {
-        const struct learnt_order *order = &learnt->order[sorted[i]];
-        const char *from = learnt->type[order->from].name, *to = learnt->type[order->to].name;
+        const struct learnt_order *order = &learnt->order[i];
+        const char *from = order->from.name, *to = order->to.name;
         if (order->is_blessed)
             continue;
         ADD(orders->order, orders->count, orders->room) = (struct order){
@@ -58,7 +57,6 @@ static void add_orders(struct order_list *orders, const struct learnt *learnt, c
             .is_broken = !order->is_against && is_broken(reports, from, to),
         };
     }
-    free(sorted);
 }
 
 /* What the program makes of them is the page. */

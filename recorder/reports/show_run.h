@@ -63,7 +63,7 @@ struct run {
     bool has_new;                 /* one of them is new */
     const char **blind;           /* objects in which stacks end */
     size_t blinds, blind_room;
-    const char **library; /* those whose right orders were silenced */
+    const char **library; /* those whose right orders were ignored */
     size_t libraries, library_room;
     unsigned long *matched; /* lines of the ignore file that name types */
     size_t matches, matched_room;
@@ -83,7 +83,7 @@ struct process {
     struct stream stream;
     struct notes notes;
     struct reports reports;
-    struct reports silenced; /* what isn't told: the user doesn't want it, or it is right in a library */
+    struct reports ignored; /* what isn't told: the user doesn't want it, or it is right in a library */
     struct state state;
     int status;          /* of the verifier, as a shell says it */
     bool resolved;       /* else its lines couldn't be made */

@@ -197,7 +197,7 @@ static void look_for_premises(struct process *process)
     const struct state *state = &process->state;
     const char *answer = !state->is_whole ? "it wasn't looked at"
         : state->is_clean                 ? NULL
-                                          : "what was reported is silenced";
+                                          : "what was reported is ignored";
     if (!stream_count(&process->stream, "releases", &releases) || releases > 0)
         answer = "a lock was released by a thread that didn't hold it";
     else if (!stream_count(&process->stream, "rereads", &rereads) || rereads > 0)
@@ -274,8 +274,8 @@ static void keep_for_later(struct process *process)
 {
     struct run *run = process->run;
     const struct notes *notes = &process->notes;
-    for (size_t i = 0; i < process->silenced.count; i++)
-        *(process->silenced.report[i].peace == PEACE_BY_USER ? &run->ignored : &run->known) += 1;
+    for (size_t i = 0; i < process->ignored.count; i++)
+        *(process->ignored.report[i].ignored == IGNORED_BY_USER ? &run->ignored : &run->known) += 1;
     for (size_t i = 0; i < notes->matches; i++) {
         size_t at = 0;
         while (at < run->matches && run->matched[at] != notes->matched[i])
@@ -365,7 +365,7 @@ void tell_process(struct run *run, const struct recording *recording)
 void process_end(struct process *process)
 {
     reports_end(&process->reports);
-    reports_end(&process->silenced);
+    reports_end(&process->ignored);
     if (!process->has_lent_notes)
         notes_end(&process->notes);
     state_end(&process->state);

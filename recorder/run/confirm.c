@@ -169,7 +169,7 @@ static struct finding **findings_sorted(struct findings *findings, size_t *count
     for (size_t i = 0; i < findings->findings; i++) {
         struct finding *finding = &findings->finding[i];
         enum report_kind kind = finding->report->kind;
-        if (!finding->is_silenced && (kind == REPORT_REVERSAL || kind == REPORT_DUPLICATE))
+        if (!finding->is_ignored && (kind == REPORT_REVERSAL || kind == REPORT_DUPLICATE))
             sorted[(*count)++] = finding;
     }
     qsort(sorted, *count, sizeof *sorted, compare_findings);

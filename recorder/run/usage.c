@@ -33,7 +33,7 @@ static const char text[] =
     "                 ones alone; and by no-errors nothing is told of errors in the use of locks\n"
     "  --ignore FILE  what is all right: duplicates of a \"TYPE\" by its line, either order by a line \"TYPE\" \"TYPE\"; or\n"
     "                 right orders of libraries, in place of the lists that come with it; the word none: without these\n"
-    "  --gen-suppressions   below each report the line for the ignore file that would silence it\n"
+    "  --gen-suppressions   below each report the line for the ignore file that would have it ignored\n"
     "Orders of many runs (orders --help has more):\n"
     "  --learn FILE   judge the run with the orders that the file has of other runs, and add those that contradict nothing\n"
     "  --known FILE   judge the run with them, and tell which it adds: lines + for the file, and ! for what contradicts them\n"

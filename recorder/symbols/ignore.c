@@ -95,7 +95,7 @@ static void call(struct called *called, const struct ignore *ignore, struct note
     ADD(names->name, names->count, names->room) = name;
     if (line == 0)
         return;
-    peace_add_type(&notes->peace, name, PEACE_BY_USER);
+    ignored_add_type(&notes->ignored, name, IGNORED_BY_USER);
     note_match(notes, line);
 }
 
@@ -115,7 +115,7 @@ static void bless(const struct called *called, const struct ignored_pair *pair, 
     for (size_t i = 0; i < first->count; i++)
         for (size_t j = 0; j < second->count; j++)
             if (strcmp(first->name[i], second->name[j]) != 0)
-                peace_add_pair(&notes->peace, first->name[i], second->name[j], PEACE_BY_USER);
+                ignored_add_pair(&notes->ignored, first->name[i], second->name[j], IGNORED_BY_USER);
 }
 
 static void note_alias(struct notes *notes, const struct named_type *type)
@@ -169,10 +169,10 @@ static void call_type(struct called *called, const struct ignore *ignore, struct
     free(plain);
 }
 
-void peace_begin(struct notes *notes, const struct ignore *ignore, const struct types *types)
+void ignored_begin(struct notes *notes, const struct ignore *ignore, const struct types *types)
 {
     struct called called = {0};
-    peace_end(&notes->peace);
+    ignored_end(&notes->ignored);
     notes->aliases = notes->matches = 0;
     for (uint32_t number = 1; number < types->count; number++) {
         const struct named_type *type = &types->type[number];

@@ -1,5 +1,5 @@
 /*
- * The user's file of types, and pairs of them, to be left in peace.
+ * The user's file of types, and pairs of them, to be left in ignored.
  */
 #ifndef RECORD_IGNORE_H
 #define RECORD_IGNORE_H
@@ -9,7 +9,7 @@
 
 #include "map.h"
 #include "notes.h"
-#include "peace.h"
+#include "ignored.h"
 #include "types.h"
 
 /* A line with two types: either order of them is all right. */
@@ -29,9 +29,9 @@ void ignore_read(struct ignore *ignore, const char *path);
 void ignore_end(struct ignore *ignore);
 
 /*
- * Notes what is to be left in peace of these types, which lines name them, and what types are called besides: in place of what
+ * Notes what is to be ignored of these types, which lines name them, and what types are called besides: in place of what
  * was noted of that before. The aliases have the texts of the types.
  */
-void peace_begin(struct notes *notes, const struct ignore *ignore, const struct types *types);
+void ignored_begin(struct notes *notes, const struct ignore *ignore, const struct types *types);
 
 #endif

@@ -11,7 +11,7 @@
 #include "lasting_names.h"
 #include "lock_pairs.h"
 #include "map.h"
-#include "peace.h"
+#include "ignored.h"
 #include "single.h"
 
 /* A function and its FILE:LINE, of a stack. */
@@ -103,12 +103,12 @@ struct notes {
     size_t matches, matched_room;
     const char **blind; /* objects in which stacks end */
     size_t blinds, blind_room;
-    const char **library; /* those whose right orders were silenced (right_orders.h), each once */
+    const char **library; /* those whose right orders were ignored (right_orders.h), each once */
     size_t libraries, library_room;
     struct lock_name *lock; /* lock[N - 1] is that of number N */
     size_t locks, lock_room;
     struct single single;    /* the pairs of single locks */
-    struct peace peace;      /* what of its types isn't told */
+    struct ignored ignored;  /* what of its types isn't told */
     struct lock_pairs pairs; /* of single locks, where orders are learnt or reports are to be confirmed */
     unsigned long pending;   /* requests that never ended */
     bool has_shared;         /* a lock may be taken by other processes, too */

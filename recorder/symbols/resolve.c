@@ -83,7 +83,7 @@ struct resolving *resolving_new(struct resolver *resolver, const struct stream *
     resolving->making = (struct making){
         .declared = &resolving->declared,
         .types = &resolving->types,
-        .peace = &resolving->notes.peace,
+        .ignored = &resolving->notes.ignored,
         .sites = &resolving->sites,
         .frames = settings->frames > 1 ? (size_t)settings->frames : 1,
         .is_learnt = is_learnt,
@@ -164,8 +164,8 @@ static bool declare(struct resolving *resolving, const char *at, const char *end
     bool has_requests = right_requests_read(resolving->requests, &resolving->types, at, end);
     if (!has_news && !is_first && !has_requests)
         return true;
-    peace_begin(&resolving->notes, &resolving->resolver->ignore, &resolving->types);
-    right_requests_silence(resolving->requests, &resolving->types, &resolving->notes);
+    ignored_begin(&resolving->notes, &resolving->resolver->ignore, &resolving->types);
+    right_requests_ignore(resolving->requests, &resolving->types, &resolving->notes);
     return true;
 }
 

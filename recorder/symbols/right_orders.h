@@ -1,5 +1,5 @@
 /*
- * Orders of libraries that are right though both ways are seen: lists of them (recorder/known/), and what they silence in a
+ * Orders of libraries that are right though both ways are seen: lists of them (recorder/known/), and what they have ignored in a
  * stream.
  *
  * A line is OBJECT "HELD" "ASKED" in "FUNCTION".. : a lock that ASKED made is asked for in a call of one of the functions, while
@@ -55,6 +55,6 @@ bool right_requests_read(struct right_requests *requests, const struct types *ty
  * Silences each pair of types, and each type, of which both orders were read, all in the lists' direction are right, and no
  * single locks were taken both ways. The notes have the libraries whose orders these are, in place of those before.
  */
-void right_requests_silence(const struct right_requests *requests, const struct types *types, struct notes *notes);
+void right_requests_ignore(const struct right_requests *requests, const struct types *types, struct notes *notes);
 
 #endif

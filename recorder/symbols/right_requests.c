@@ -172,7 +172,7 @@ static void note_request(struct right_requests *reading, uint32_t held, uint32_t
         (struct met){held, asked, order != NULL, order == NULL, order ? library_of(reading, asked) : NULL};
 }
 
-/* Of two types: they aren't silenced. */
+/* Of two types: they aren't ignored. */
 static void add_wrong(struct right_requests *reading, uint32_t held, uint32_t asked)
 {
     ADD(reading->met, reading->mets, reading->met_room) = (struct met){.held = held, .asked = asked, .is_wrong = true};
@@ -282,21 +282,21 @@ static const char *library_if_right(const struct right_requests *reading, uint32
     return is_wrong ? NULL : library;
 }
 
-/* What is right of the two is silenced where the other way was met, too. */
-static void silence(const struct right_requests *reading, const struct types *types, const struct met *met,
+/* What is right of the two is ignored where the other way was met, too. */
+static void ignore(const struct right_requests *reading, const struct types *types, const struct met *met,
     struct notes *notes)
 {
-    struct peace *peace = &notes->peace;
+    struct ignored *ignored = &notes->ignored;
     const char *held = types->type[met->held].name, *asked = types->type[met->asked].name;
     bool is_met = false, is_other_met = false, is_double = met->held == met->asked;
     const char *library = library_if_right(reading, met->held, met->asked, &is_met);
     library_if_right(reading, met->asked, met->held, &is_other_met);
-    if (!library || !is_other_met || peace_of(peace, held, asked) != PEACE_NONE)
+    if (!library || !is_other_met || why_ignored(ignored, held, asked) != NOT_IGNORED)
         return;
     if (is_double)
-        peace_add_type(peace, held, PEACE_AS_RIGHT);
+        ignored_add_type(ignored, held, IGNORED_AS_RIGHT);
     else
-        peace_add_pair(peace, held, asked, PEACE_AS_RIGHT);
+        ignored_add_pair(ignored, held, asked, IGNORED_AS_RIGHT);
     for (size_t i = 0; i < notes->libraries; i++)
         if (strcmp(notes->library[i], library) == 0)
             return;
@@ -351,10 +351,10 @@ bool right_requests_read(struct right_requests *requests, const struct types *ty
     return requests->mets > before || requests->lacks_pairs != lacked_pairs;
 }
 
-void right_requests_silence(const struct right_requests *requests, const struct types *types, struct notes *notes)
+void right_requests_ignore(const struct right_requests *requests, const struct types *types, struct notes *notes)
 {
     notes->libraries = 0;
     for (size_t i = 0; i < requests->mets && !requests->lacks_pairs; i++)
         if (requests->met[i].is_right)
-            silence(requests, types, &requests->met[i], notes);
+            ignore(requests, types, &requests->met[i], notes);
 }

@@ -51,9 +51,9 @@ static void write_header(const struct making *making, FILE *trace)
     fprintf(trace, "witness-trace 1 seats %zu types %zu locks %zu chunks %zu\nprofile all\n",
         at_least_one(declared->seats), at_least_one(making->types->different), at_least_one(declared->locks),
         at_least_one(chunks > CHUNKS_MOST ? CHUNKS_MOST : chunks));
-    for (size_t i = 0; i < making->peace->pairs; i++) {
-        put_name(trace, "bless ", making->peace->pair[i].first);
-        put_name(trace, " ", making->peace->pair[i].second);
+    for (size_t i = 0; i < making->ignored->pairs; i++) {
+        put_name(trace, "bless ", making->ignored->pair[i].first);
+        put_name(trace, " ", making->ignored->pair[i].second);
         putc('\n', trace);
     }
 }
@@ -104,11 +104,11 @@ static void put_init(struct writing *writing, const struct line *line)
     struct field flags = line->field[3];
     const char *name = made_lock_name(&made, making->declared, making->types);
     const char *type = made_type_name(&made, making->types);
-    bool in_peace = peace_of(making->peace, type, type) != PEACE_NONE;
+    bool is_ignored = why_ignored(making->ignored, type, type) != NOT_IGNORED;
     bool is_recursive = memchr(flags.at, *INIT_RECURSIVE, flags.length);
     put_bytes(writing->trace, line->at, (size_t)(flags.at - line->at));
-    fputs(is_recursive ? INIT_RECURSIVE : in_peace ? "" : NO_NAME, writing->trace);
-    put_name(writing->trace, in_peace ? "d " : " ", name);
+    fputs(is_recursive ? INIT_RECURSIVE : is_ignored ? "" : NO_NAME, writing->trace);
+    put_name(writing->trace, is_ignored ? "d " : " ", name);
     if (strcmp(name, type) != 0)
         put_name(writing->trace, " ", type);
     putc_unlocked('\n', writing->trace);

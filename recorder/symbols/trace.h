@@ -8,7 +8,7 @@
 #include <stdio.h>
 
 #include "declarations.h"
-#include "peace.h"
+#include "ignored.h"
 #include "sites.h"
 #include "types.h"
 
@@ -17,7 +17,7 @@ struct making {
     const struct stream *stream;
     const struct declared *declared;
     const struct types *types;
-    const struct peace *peace;
+    const struct ignored *ignored;
     struct sites *sites;
     size_t frames;  /* so many of a stack are wanted; with 1 none */
     bool is_learnt; /* its orders are: callers are noted also where no frames are wanted */

@@ -92,6 +92,6 @@ if wanted withblocks; then
     echo '"made(all[])<new_page(malloc(sizeof(structpage)))+0x38" "made(all[])<new_page(malloc(sizeof(structpage)))+0x8"' | diff - list
     tell withblocks "names that last" $?
     "$record" --blocks --ignore list -- ./blocks crossed 2>&1 | tail -n 1 >last
-    echo 'record: nothing to report: list silences 1 report' | diff - last
+    echo 'record: nothing to report: list ignores 1 report' | diff - last
     tell withblocks "an ignore file" $?
 fi

@@ -80,8 +80,8 @@ if wanted once && has_libdw once; then
     tell once "one verifier looks before the program, and one while it goes on and at its end" $?
     printf '%s\n' '"made()<main()"' '"kinds.c:8<kinds.c:25" "kinds.c:8<kinds.c:24"' >list && rm -f words
     "$record" --quiet --ignore list --json once.json -- ./kinds 2>recorded.err
-    [ "$(runs_made)" -eq 2 ] && [ "$(grep -c '"silenced": true' once.json)" -eq 2 ] && grep -q 'list silences 2 reports' recorded.err
-    tell once "what is silenced is asked for with the rest" $?
+    [ "$(runs_made)" -eq 2 ] && [ "$(grep -c '"silenced": true' once.json)" -eq 2 ] && grep -q 'list ignores 2 reports' recorded.err
+    tell once "what is ignored is asked for with the rest" $?
     rm -f words
     "$record" --quiet -- sh -c './live 0; ./kinds' 2>both.err </dev/null
     [ "$(runs_made)" -eq 2 ] && grep -q '^record: 3 reports, 0 circles, 2 processes$' both.err

@@ -110,7 +110,7 @@ if wanted accounts && has_libdw accounts; then
         '"accounts.cc:82<accounts.cc:172" "accounts.cc:75<accounts.cc:171"' '"report()<main()" "deposit()<main()"'; do
         echo "$line" >list
         "$record" --ignore list -- ./accounts both 2>recorded.err
-        tail -n 1 recorded.err | grep -qx 'record: nothing to report: list silences 1 report'
+        tail -n 1 recorded.err | grep -qx 'record: nothing to report: list ignores 1 report'
         tell accounts "in the ignore file: $line" $?
     done
     "$record" --gen-suppressions -- ./accounts both 2>&1 | grep '^"' >recorded.err
@@ -261,7 +261,7 @@ ANY
     [ $? -eq 1 ] && [ "$(grep -c '^lock order reversal' replayed)" -eq 1 ]
     tell whole "cut in a trace, and apart" $?
     printf '"%sfirst" "%ssecond"\n' $name $name >list
-    "$record" --ignore list -- ./whole 2>&1 | tail -n 1 | grep -qx 'record: nothing to report: list silences 1 report'
+    "$record" --ignore list -- ./whole 2>&1 | tail -n 1 | grep -qx 'record: nothing to report: list ignores 1 report'
     tell whole "in the ignore file" $?
     "$record" --learn whole.orders -- ./whole 2>recorded.err
     grep -qF "mtx \"whole:${name}first\" > mtx \"whole:${name}second\"" whole.orders

@@ -38,12 +38,16 @@ if wanted orders; then
     refuses 'mtx "a" > mtx ""\n' "bad: line 1: $form"
     refuses 'mtx "a" > mtx b\n' "bad: line 1: $form"
     refuses 'mtx "a"\n' "bad: line 1: $form"
-    refuses 'spin "a" > mtx "b"\n' 'bad: line 1: a class is none of mtx, rw and sx'
+    refuses 'mutex "a" > mtx "b"\n' "bad: line 1: $form"
     refuses 'mtx "a" > mtx "a"\n' 'bad: line 1: a type stands before itself'
-    refuses 'mtx "a" > mtx "b" # f\n' 'bad: line 1: after the order stands something else than a tab, # and where it comes from'
-    refuses 'mtx "a" > mtx "b"\r\n' 'bad: line 1: after the order stands something else than a tab, # and where it comes from'
+    refuses 'mtx "a" > mtx "b"\t#f\n' 'bad: line 1: after the order stands something else than a tab, # and where it comes from'
+    refuses 'mtx "a" > mtx "b" # f\n' "bad: line 1: $form"
+    refuses 'mtx "a" > mtx "b"\r\n' "bad: line 1: $form"
     refuses 'mtx "a" > mtx "b"\t# f\0\n' 'bad: line 1: it has a byte that is no part of a text'
-    refuses 'mtx "a" > mtx "b\t"\n' 'bad: line 1: it has a byte that is no part of a text'
+    refuses 'mtx "a" > mtx "b\t"\n' "bad: line 1: $form"
+    refuses 'mtx "a" > mtx "b\001"\n' 'bad: line 1: it has a byte that is no part of a text'
+    refuses 'mtx "a" > mtx "b"\n\tfile\n' "bad: line 2: $form"
+    refuses 'mtx "a" > mtx "b"\n' "bad.runs: line 2: it isn't COUNT [LAST] CLASS \"TYPE\" > CLASS \"TYPE\"" 'runs 3\n\tcounts\n'
     refuses "mtx \"$(printf '%04090d' 1)\" > mtx \"b\"\n" 'bad: line 1: it is longer than 4,096 bytes'
     refuses 'mtx "a" > mtx "b"\nmtx "b" > mtx "c"' 'bad: line 2: it has no end'
     refuses 'mtx "a" > mtx "b"\n' 'bad.runs: line 1: it isn'\''t runs N' 'runs x\n'
@@ -118,7 +122,7 @@ if wanted orders; then
     tell orders "a circle of three: the rare order is the one against the others" $?
     printf '%s\n' '# either' '"a" "c"' >peace
     ordered judge --ignore peace other good
-    stands 0 'orders: 1 of them is left in peace' 'orders: no circle without those in peace: 3 orders, 3 types, 2 runs'
+    stands 0 'orders: 1 of them is ignored' 'orders: no circle without the ignored ones: 3 orders, 3 types, 2 runs'
     tell orders "an order that the user allows" $?
     ordered judge --gen-suppressions other again good
     grep -qx '"c" "a"' told
@@ -127,22 +131,25 @@ if wanted orders; then
     printf '%s\n' '"f(m)" "std::n"' '":n" "a"' '"n" "a"' >peace
     ordered judge --ignore peace prefixed
     [ "$status" -eq 1 ] && grep -c '^lock order' told | grep -qx 1 && grep -q '^ 1st "y::n" ' told &&
-        grep -qx 'orders: 2 of them are left in peace' told
+        grep -qx 'orders: 2 of them are ignored' told
     tell orders "names without their objects" $?
     echo '"a" b' >peace
     ordered judge --ignore peace good
     [ "$status" -eq 2 ] && grep -q '^orders: peace: line 1 ' complaints
     tell orders "a file of these that is none" $?
-    printf '%s\n' '#!/bin/sh' 'cat >/dev/null' 'echo "against: 0 of 1 orders, 3 types"' >fewer && chmod +x fewer
+    # The files are read by the program itself.
+    reads='[ "$2" = judge ] || exec "$REAL" "$@"'
+    export REAL="$WITNESS"
+    printf '%s\n' '#!/bin/sh' "$reads" 'cat >/dev/null' 'echo "against: 0 of 1 orders, 3 types"' >fewer && chmod +x fewer
     WITNESS=$work/fewer ordered judge good
     [ "$status" -eq 126 ] && [ ! -s told ] &&
         echo "orders: $work/fewer answers something else than what is against them: nothing is judged" | diff - complaints
     tell orders "a judge that has read less" $?
-    printf '%s\n' '#!/bin/sh' 'cat >/dev/null' "echo '$b > $c'" >cut && chmod +x cut
+    printf '%s\n' '#!/bin/sh' "$reads" 'cat >/dev/null' "echo '$b > $c'" >cut && chmod +x cut
     WITNESS=$work/cut ordered judge good
     [ "$status" -eq 126 ] && [ ! -s told ] && grep -q 'answers something else' complaints
     tell orders "a judge whose answer is cut" $?
-    printf '%s\n' '#!/bin/sh' 'cat >/dev/null' "echo '$a > $c'" 'echo "against: 1 of 2 orders, 3 types"' 'exit 1' >other.judge &&
+    printf '%s\n' '#!/bin/sh' "$reads" 'cat >/dev/null' "echo '$a > $c'" 'echo "against: 1 of 2 orders, 3 types"' 'exit 1' >other.judge &&
         chmod +x other.judge
     WITNESS=$work/other.judge ordered judge good
     [ "$status" -eq 126 ] && [ ! -s told ] && grep -q 'answers something else' complaints

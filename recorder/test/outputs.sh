@@ -8,7 +8,7 @@ build_driver() {
     compiler=$1
     folder=$2
     shift 2
-    sources=$(source_of alarms describe dot_text escape files findings hang json json_place map allocation notes peace lock_pairs json_writer process_orders pictures place place_words \
+    sources=$(source_of alarms describe dot_text escape files findings hang json json_place map allocation notes ignored lock_pairs json_writer process_orders pictures place place_words \
         report report_orders schedule single sources texts verdict)
     mkdir -p "$folder" && (cd "$folder" && in_folders "$compiler" -std=c11 -D_GNU_SOURCE -g -Wall -Wextra -Werror \
         "$@" -o driver "$here/outputs/driver.c" $sources)
@@ -107,10 +107,10 @@ test_runs() {
         grep -q "<p class='single bad'>single locks: both orders, the same locks, .*; the other way @ single.c:56</p>" run.html
     tell outputs "of two locks of one type that were taken both ways" $?
     printf '%s\n' '"made()<main()"' '"kinds.c:8<kinds.c:25" "kinds.c:8<kinds.c:24"' >known
-    recorded_to run --ignore known -- ./kinds && whole run && said 0 'known silences 2 reports' &&
+    recorded_to run --ignore known -- ./kinds && whole run && said 0 'known ignores 2 reports' &&
         is run.json reports.# 2 reports.0.silenced true reports.0.kind '"duplicate"' reports.1.silenced true &&
         is run.sarif runs.0.results.1.suppressions.0.kind '"external"'
-    tell outputs "of reports that the ignore file silences" $?
+    tell outputs "of reports that the ignore file has ignored" $?
     printf '%s\n' '"made()<main()" "made()<main()"' >known
     recorded_to run --ignore known -- ./kinds && whole run &&
         is run.json reports.# 2 reports.0.kind '"duplicate"' reports.0.silenced false reports.1.silenced true \
@@ -118,7 +118,7 @@ test_runs() {
             reports.0.advice.0 '"No single locks were taken both ways: ask whether another run can take them the other way round."' &&
         grep -q "Two locks of one type, which doesn't count for the status" run.html &&
         is run.sarif runs.0.results.0.level '"note"' runs.0.results.1.level '"warning"'
-    tell outputs "of one that it silences" $?
+    tell outputs "of one that is ignored" $?
     recorded_to run -- timeout -s KILL 3 ./deadlock
     whole run && is run.json reports.# 2 reports.1.kind '"circle"' reports.1.waits.# 4 reports.1.waits.1.does '"holds"' &&
         is run.sarif runs.0.results.1.level '"error"'

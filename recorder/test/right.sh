@@ -25,7 +25,7 @@ if wanted right; then
         "${CC:-cc}" $way -fno-optimize-sibling-calls -DLIBRARY -shared -fPIC -Wl,-soname,libtrees.so.2 -o libtrees.so.2 trees.c -pthread
         "${CC:-cc}" -g -o trees trees.c ./libtrees.so.2 -Wl,-rpath,"$work" -pthread
         is_last "it is counted ($way)" "nothing to report; 1 known of libtrees.so" ""
-        grep -q '^record: not clean: trees: what was reported is silenced$' recorded.err && ! grep -q 'matched nothing' recorded.err
+        grep -q '^record: not clean: trees: what was reported is ignored$' recorded.err && ! grep -q 'matched nothing' recorded.err
         tell right "a run isn't called clean for it, and a line that names nothing isn't told ($way)" $?
         is_last "another report is told beside it ($way)" "1 report, 1 known of libtrees.so, 0 circles, 1 process" own
         is_last "what isn't in the function is told ($way)" "1 report, 0 circles, 1 process" moves
@@ -36,13 +36,13 @@ if wanted right; then
     tell right "none by --ignore none" $?
     sed -n 's/^"/"/p' recorded.err >list && RECORD_FRAMES=8 "$record" --ignore none --gen-suppressions -- ./trees own 2>&1 |
         sed -n 's/^"own"/"own"/p; s/^"other"/"other"/p' >list
-    is_last "beside the user's own list" "nothing to report: list silences 1 report; 1 known of libtrees.so" own --ignore list
+    is_last "beside the user's own list" "nothing to report: list ignores 1 report; 1 known of libtrees.so" own --ignore list
     by_list "" --json run.json >last && python3 - run.json <<'END'
 import json, sys
 reports = json.load(open(sys.argv[1]))["reports"]
 sys.exit([(each["kind"], each["silenced"]) for each in reports] != [("duplicate", True)])
 END
-    tell right "in JSON it is silenced" $?
+    tell right "in JSON it is ignored" $?
     printf '%s\n' 'libtrees.so "tree_new"' >trees.known
     "$record" --ignore trees.known -- ./trees 2>recorded.err
     [ $? -eq 2 ] && grep -q '^record: trees.known: line 1 isn.t OBJECT "FUNCTION" "FUNCTION" in "FUNCTION"' recorded.err

@@ -53,7 +53,7 @@ if wanted nodebug; then
             grep -v '^  main\|^  renders' "$here/nodebug.want" | diff - reports
             tell nodebug "a report by functions ($compiler $level)" $?
             sed -n 's/^"/"/p' recorded.err >list && "$record" --ignore list -- ./nodebug 2>&1 | tail -n 1 >reports
-            echo 'record: nothing to report: list silences 2 reports' | diff - reports
+            echo 'record: nothing to report: list ignores 2 reports' | diff - reports
             tell nodebug "and its lines of the ignore file ($compiler $level)" $?
         done
     done

@@ -2,13 +2,16 @@
 use Rattle.std.specs.Prelude.{ℕ, List, [], ◌∷◌, map, Option, Some, None, true, false, option_map, codes, if◌then◌else◌}
 use Rattle.std.specs.Str.{bytes_eq}
 use Rattle.std.specs.Global.{Vec}
-use Rattle.clap.specs.Words.{App, Text, new_app, new_rule, with_rule}
+use Rattle.clap.specs.Words.{App, Text as Word, new_app, new_rule, with_rule}
 use Rattle.clap.specs.declared.builder.action.ArgAction.TheVariants.{Set}
+use Rattle.wit_model.specs.Trace.Words.{number_of}
+use Rattle.wit_merge.specs.declared.machine.Shown.TheVariants.{Merged, Text, Unseen}
 use Rattle.wit_lines.specs.declared.view.View.TheVariants.{Reports, Graph, Locks, Circle, State}
 use Rattle.wit_lines.specs.declared.view.View.TheVariants.{Clean}
 use Rattle.wit_command.specs.declared.command.Command.{Command}
 use Rattle.wit_command.specs.declared.command.Command.TheVariants.{Show, Migrate, Grade, Demo}
-use Rattle.wit_command.specs.declared.command.Command.TheVariants.{Findings, Forecast, Import, Judge, Write}
+use Rattle.wit_command.specs.declared.command.Command.TheVariants.{Findings, Forecast, Import, Judge, Orders}
+use Rattle.wit_command.specs.declared.command.Command.TheVariants.{Write}
 use Rattle.wit_command.specs.declared.command.Form.TheVariants.{Html, Sarif}
 use Rattle.wit_command.specs.declared.command.Choice.{Choice}
 use Rattle.wit_command.specs.declared.command.Choice.TheVariants.{Interrupts, Readers}
@@ -91,10 +94,24 @@ abbrev pub import_named : List ℕ → List ℕ → List (List ℕ) → Option C
 import_named word source options =
     if bytes_eq word (codes "import") then option_map Import (source_named source options) else None
 
--- what is to be done with orders, which has no options
+-- what is to be done with orders, where nothing follows
+abbrev pub task_alone : List ℕ → Option Command
+task_alone task =
+    if bytes_eq task (codes "judge") then Some Judge
+    else if bytes_eq task (codes "merge") then Some (Orders Merged)
+    else if bytes_eq task (codes "text") then Some (Orders Text)
+    else None
+
+-- the orders that weren't met within so many runs
+abbrev pub unseen_within : Option ℕ → Option Command
+unseen_within runs = option_map (λ n. Orders (Unseen n)) runs
+
+-- what is to be done with orders: `unseen` has a number, and nothing else has an option
 abbrev pub task_named : List ℕ → List (List ℕ) → Option Command
-task_named task [] = if bytes_eq task (codes "judge") then Some Judge else None
-task_named task (option ∷ options) = None
+task_named task [] = task_alone task
+task_named task (runs ∷ []) =
+    if bytes_eq task (codes "unseen") then unseen_within (number_of 4294967296 runs) else None
+task_named task (_ ∷ _ ∷ _) = None
 
 -- what two words and options ask for: something of orders, or an import
 abbrev pub named_by_two : List ℕ → List ℕ → List (List ℕ) → Option Command
@@ -113,12 +130,12 @@ asked (word ∷ next ∷ options) = named_by_two word next options
 asked words = asked_alone words
 
 -- the word behind the program's name, where it is the only one
-abbrev pub only_word : List Text → Option Text
+abbrev pub only_word : List Word → Option Word
 only_word (name ∷ word ∷ []) = Some word
 only_word _ = None
 
 -- what a word asks for, where there is one
-abbrev pub option_named : Option Text → Option Command
+abbrev pub option_named : Option Word → Option Command
 option_named (Some word) = command_named word
 option_named None = None
 

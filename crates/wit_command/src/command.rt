@@ -1,6 +1,7 @@
 //! What the program can be asked to do.
 
 use wit_lines::View;
+use wit_merge::Shown;
 
 /// What an import of ftrace tells by locks.
 #[derive(Clone, Copy, Debug, PartialEq, Eq)]
@@ -57,6 +58,8 @@ pub enum Command {
     Write(Form),
     /// What is against others among the orders on standard input.
     Judge,
+    /// The orders of the files on standard input, shown so.
+    Orders(Shown),
     /// The lines on standard input, which such a source wrote, as a trace.
     Import(Source),
     /// The demonstration.

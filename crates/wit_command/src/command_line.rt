@@ -5,7 +5,8 @@ ghost use Rattle.std.specs.Prelude.{map, option_map};
 ghost use Rattle.clap.specs.Words.{first_of, kind_of, matches_of, takes};
 ghost use Rattle.wit_command.specs.CommandLine.{asked, asked_alone, bytes_of, command_line};
 ghost use Rattle.wit_command.specs.CommandLine.{alone, choice_named, command_named, encoding_by};
-ghost use Rattle.wit_command.specs.CommandLine.{named_by_two, task_named};
+ghost use Rattle.wit_command.specs.CommandLine.{named_by_two, task_alone, task_named, unseen_within};
+ghost use Rattle.wit_model.specs.Trace.Words.{number_of};
 ghost use Rattle.wit_command.specs.CommandLine.{ftrace_by, import_named, with_choice};
 ghost use Rattle.wit_command.specs.CommandLine.{only_word, option_named, source_named, with_option};
 
@@ -15,12 +16,15 @@ use clap::{Arg, ArgAction, Error};
 use std::alloc::{AllocError, Global};
 use std::convert::AsStr;
 use std::str;
+use wit_fields::LineError;
+use wit_fields::numbers::number_of;
 use wit_lines::View;
+use wit_merge::Shown;
 
 /// What these words ask for, which stand behind the program's name: `None` where they aren't
-/// exactly one word that says it, or `orders` and what is to be done with them, or `import` and a source,
-/// behind which the options of an import of ftrace may stand. No other option does, nor does a word for
-/// help.
+/// exactly one word that says it, or `orders` and what is to be done with them, or `import` and a source.
+/// Options may stand after `ftrace`, and after `unseen` stands a number. No other option does, nor does
+/// a word for help.
 ///
 /// # Errors
 /// Want of memory.
@@ -28,28 +32,58 @@ pub fn asked_command(alloc: Global, words: &[Vec<u8>]) -> Result<Option<Command>
     ensures { IfOk result (λ command. command ≡ asked (bytes_of words.now)) }
 {
     match words {
-        [word, next, options @ ..] => Ok(named_by_two(word.as_slice(), next.as_slice(), options)),
+        [word, next, options @ ..] => named_by_two(word.as_slice(), next.as_slice(), options),
         _ => asked_alone(alloc, words),
     }
 }
 
-fn named_by_two(word: &[u8], next: &[u8], options: &[Vec<u8>]) -> Option<Command>
-    ensures { result ≡ named_by_two word.now next.now (bytes_of options.now) }
+fn named_by_two(
+    word: &[u8],
+    next: &[u8],
+    options: &[Vec<u8>],
+) -> Result<Option<Command>, AllocError>
+    ensures { IfOk result (λ command. command
+        ≡ named_by_two word.now next.now (bytes_of options.now)) }
 {
     if word == b"orders".as_slice() {
         named_task(next, options)
     } else {
-        named_import(word, next, options)
+        Ok(named_import(word, next, options))
     }
 }
 
-// What is to be done with orders, which has no options.
-fn named_task(task: &[u8], options: &[Vec<u8>]) -> Option<Command>
-    ensures { result ≡ task_named task.now (bytes_of options.now) }
+// What is to be done with orders: `unseen` has a number, and nothing else has an option.
+fn named_task(task: &[u8], options: &[Vec<u8>]) -> Result<Option<Command>, AllocError>
+    ensures { IfOk result (λ command. command ≡ task_named task.now (bytes_of options.now)) }
 {
     match options {
-        [] if task == b"judge".as_slice() => Some(Command::Judge),
-        _ => None,
+        [] => Ok(task_alone(task)),
+        [runs] if task == b"unseen".as_slice() => unseen(runs.as_slice()),
+        _ => Ok(None),
+    }
+}
+
+fn task_alone(task: &[u8]) -> Option<Command>
+    ensures { result ≡ task_alone task.now }
+{
+    if task == b"judge".as_slice() {
+        Some(Command::Judge)
+    } else if task == b"merge".as_slice() {
+        Some(Command::Orders(Shown::Merged))
+    } else if task == b"text".as_slice() {
+        Some(Command::Orders(Shown::Text))
+    } else {
+        None
+    }
+}
+
+fn unseen(runs: &[u8]) -> Result<Option<Command>, AllocError>
+    ensures { IfOk result (λ command. command ≡ unseen_within (number_of 4294967296 runs.now)) }
+{
+    match number_of(u32::MAX, runs) {
+        Ok(runs) => Ok(Some(Command::Orders(Shown::Unseen(runs)))),
+        Err(LineError::Bad(_)) => Ok(None),
+        Err(LineError::Memory) => Err(AllocError),
     }
 }
 

@@ -127,11 +127,7 @@ impl Word {
 
     /// The exclusive hold for a share, where that is the only one. Else the share comes back, with
     /// the word as it was met.
-    pub fn try_upgrade(
-        &self,
-        _turn: &InTurn<'_>,
-        ticket: Ticket,
-    ) -> Result<Ticket, (Ticket, Met)>
+    pub fn try_upgrade(&self, _turn: &InTurn<'_>, ticket: Ticket) -> Result<Ticket, (Ticket, Met)>
         requires { ticket ≡ pass self.now Shared }
         ensures { MatchResult result (λ t. t ≡ pass self.now Exclusive)
             (λ e. (e.0 ≡ ticket) × IsCrowded self.now e.1) }

@@ -13,8 +13,8 @@ mod short_lines;
 mod spellable;
 
 pub use beginnings::{
-    Begun, begin_line, behind_check, behind_free, behind_lock, behind_take,
-    behind_unlock, finish_line, lock_line,
+    Begun, begin_line, behind_check, behind_free, behind_lock, behind_take, behind_unlock,
+    finish_line, lock_line,
 };
 pub use lock_lines::borrowed;
 pub use parse::{LONGEST, parse_line};

@@ -9,6 +9,9 @@ use Rattle.wit_migrate.specs.Again.{WritesTheSame}
 use Rattle.wit_migrate.specs.Migrates.{Migrates, MigratesFrom}
 use Rattle.wit_against.specs.Known.{nothing_known}
 use Rattle.wit_against.specs.Outputs.{JudgesFrom}
+use Rattle.wit_merge.specs.declared.machine.Shown.{Shown}
+use Rattle.wit_merge.specs.Lines.{nothing_merged}
+use Rattle.wit_merge.specs.Outputs.{ShowsFrom as ShowsOrdersFrom}
 use Rattle.wit_grades.specs.Outputs.{Grades, GradesFrom, nothing_told}
 use Rattle.wit_findings.specs.Findings.{FindsFrom}
 use Rattle.wit_findings.specs.Runs as known
@@ -111,6 +114,12 @@ pub record TellsFindings (read written_old written_new : Option (List ℕ)) : Ty
 pub record TellsJudged (read written_old written_new : Option (List ℕ)) : Type 0 where
   pub left : Option (List ℕ)
   pub told : WritesLines JudgesFrom nothing_known read left written_old written_new
+
+-- what is told of the whole lines of files of orders that were taken was written, no less, whatever is
+-- left of the input
+pub record TellsMerged (shown : Shown) (read written_old written_new : Option (List ℕ)) : Type 0 where
+  pub left : Option (List ℕ)
+  pub told : WritesLines (ShowsOrdersFrom shown) nothing_merged read left written_old written_new
 
 -- what is written of an input: the one trace of a script's lines or of a tracer's
 abbrev pub ImportsBy : Source → List ℕ → List ℕ → Summary → Type 0

@@ -17,6 +17,8 @@ pub const USAGE: &str = "usage: witness replay|graph|locks|circle|state|clean < 
        witness grade < FACTS
        witness findings < RECORDING
        witness orders judge < ORDERS
+       witness orders merge|text < FILES
+       witness orders unseen RUNS < FILES
        witness html|sarif < REPORT
        witness import plain|lttng < LINES
        witness import ftrace [--no-irq] [--no-readers] < LINES
@@ -37,6 +39,8 @@ With findings it reads what the recorder wrote of a program: it writes each repo
 a JSON object a line, as soon as it is known.
 With orders judge it reads orders of lock types, a line each. It writes each that closes a circle with those before it, below
 it those that lead back, set in and as few as can be, and last how many there are.
+With orders merge, text and unseen it reads files of orders, as record --learn writes them. It writes their orders, each once:
+with how many runs met each (merge), for people (text), or those that the last so many runs didn't meet (unseen).
 With html or sarif it reads the JSON report of record --json, and writes a page for people or a log of SARIF.
 With import it reads lines that tell how threads acquire and release locks, and writes a trace: of a script (plain), of the
 kernel's ftrace, or of LTTng's pthread wrapper. With --no-irq an interrupt stands for no lock, with --no-readers recursive

@@ -6,6 +6,8 @@ ghost use Rattle.wit_forecast.specs.Forecasts.{Forecasts};
 ghost use Rattle.wit_findings.specs.Findings.{Finds};
 ghost use Rattle.wit_against.specs.Outputs.{Judges};
 ghost use Rattle.wit_grades.specs.Outputs.{Grades};
+ghost use Rattle.wit_merge.specs.Outputs.{ShowsOrders};
+ghost use Rattle.wit_merge.specs.declared.machine.Shown.{Shown};
 ghost use Rattle.wit_migrate.specs.Again.{WritesTheSame};
 ghost use Rattle.wit_migrate.specs.Migrates.{Migrates};
 ghost use Rattle.wit_lines.specs.Replays.{ShowsTrace};
@@ -16,7 +18,7 @@ ghost use Rattle.wit_stream.specs.declared.summary.ReplayError.TheVariants as Re
 ghost use Rattle.wit_stream.specs.declared.summary.ReplayError.TheVariants.{Memory};
 ghost use Rattle.wit_command.specs.declared.command.Command.TheVariants.{Demo, Findings, Forecast, Grade};
 ghost use Rattle.wit_command.specs.declared.command.Command.TheVariants.{Import, Judge};
-ghost use Rattle.wit_command.specs.declared.command.Command.TheVariants.{Migrate, Show};
+ghost use Rattle.wit_command.specs.declared.command.Command.TheVariants.{Migrate, Orders, Show};
 ghost use Rattle.wit_command.specs.declared.command.Command.TheVariants.{Write as Document};
 ghost use Rattle.wit_command.specs.declared.command.Form.{Form};
 ghost use Rattle.wit_command.specs.declared.command.Source.{Source};
@@ -27,11 +29,11 @@ ghost use Rattle.witness.specs.Program.{ImportsBy, IsImportedAndExits, IsImportC
 ghost use Rattle.witness.specs.Program.{IsMigrationCut, IsOutputCut, IsShownAndExits};
 ghost use Rattle.witness.specs.Program.{IsWrittenAndExits, IsWrittenOrRefused, TellsGrades};
 ghost use Rattle.witness.specs.Program.{TellsFindings, TellsImported, TellsJudged, TellsLines};
-ghost use Rattle.witness.specs.Program.{TellsMovedLines};
+ghost use Rattle.witness.specs.Program.{TellsMerged, TellsMovedLines};
 
 use crate::complaints::{refuse, tell_counts};
 use crate::documents::write_document;
-use crate::orders::judge;
+use crate::orders::{judge, merge};
 use std::alloc::Global;
 use std::io::{BufRead, BufReader, Read, Write};
 use wit_command::{Command, Source, asked_command};
@@ -59,16 +61,16 @@ pub enum Ended {
 
 /// Runs the program on the words behind its name, up to its exit status: where they ask for a view
 /// of the input, its migration, its forecast, its grades, its findings, what is against others among its
-/// orders, a document or its import, that of the replay, the migration, the forecast, the grading, the findings,
-/// the judging, the document or the import; where they ask for nothing, 2. The demonstration is left to the caller.
+/// orders, the orders of its files, a document or its import, that of the replay, the migration, the forecast, the
+/// grading, the findings, the judging, the merging, the document or the import; where they ask for nothing, 2. The demonstration is left to the caller.
 ///
 /// Only the input is read through a buffer: what is written is in the output when this returns.
 /// What goes to `complaints` is how the program is used, at status 2, and nothing else. What an import
 /// counts goes to `notes`, and that the input is no report.
 ///
 /// # Errors
-/// Those of `replay`, `migrate`, `forecast`, `grade_facts`, `findings`, `judge`, `write_document`, `import` and
-/// `import_traced`; and `Memory` where memory runs out before the first line is read. What was written is then a
+/// Those of `replay`, `migrate`, `forecast`, `grade_facts`, `findings`, `judge`, `merge`, `write_document`, `import`
+/// and `import_traced`; and `Memory` where memory runs out before the first line is read. What was written is then a
 /// beginning of the output; where the reader failed it is the text of every whole line that was taken.
 pub fn run<R: Read + Drop, W: Write, N: Write, E: Write>(
     alloc: Global,
@@ -137,6 +139,15 @@ pub fn run<R: Read + Drop, W: Write, N: Write, E: Write>(
     ensures judging_told { asked (bytes_of words.now) ≡ Some Judge
         → result ≡ Err ReplayError.Read
         → TellsJudged (R.remaining input) (W.contents output.old) (W.contents output.new) }
+    ensures merged { (shown : Shown) → asked (bytes_of words.now) ≡ Some (Orders shown)
+        → IfOk result (IsWrittenAndExits (ShowsOrders shown) Reports (R.remaining input)
+        (W.contents output.old) (W.contents output.new)) }
+    ensures merging_cut { (shown : Shown) → asked (bytes_of words.now) ≡ Some (Orders shown)
+        → OnErr result (IsOutputCut (ShowsOrders shown) (R.remaining input) (W.contents output.old)
+        (W.contents output.new)) }
+    ensures merging_told { (shown : Shown) → asked (bytes_of words.now) ≡ Some (Orders shown)
+        → result ≡ Err ReplayError.Read
+        → TellsMerged shown (R.remaining input) (W.contents output.old) (W.contents output.new) }
     ensures document { (form : Form) → asked (bytes_of words.now) ≡ Some (Document form)
         → IfOk result (IsWrittenOrRefused (R.remaining input) (W.contents output.old)
         (W.contents output.new)) }
@@ -159,6 +170,7 @@ pub fn run<R: Read + Drop, W: Write, N: Write, E: Write>(
         Ok(Some(Command::Grade)) => grade(alloc, input, output),
         Ok(Some(Command::Findings)) => find(alloc, input, output),
         Ok(Some(Command::Judge)) => judge(alloc, input, output),
+        Ok(Some(Command::Orders(shown))) => merge(alloc, shown, input, output),
         Ok(Some(Command::Write(form))) => write_document(alloc, form, input, output, notes),
         Ok(Some(Command::Import(source))) => import_lines(alloc, source, input, output, notes),
         Ok(Some(Command::Demo)) => Ok(Ended::ShowsThreads),

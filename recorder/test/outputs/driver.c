@@ -61,7 +61,7 @@ static void end_reports(struct reports *reports)
 {
     for (size_t i = 0; i < reports->count; i++)
         if (reports->report[i].last > 0)
-            report_names_silence(&reports->report[i], reports->notes);
+            report_names_ignore_line(&reports->report[i], reports->notes);
 }
 
 static void end_process(void)
@@ -69,14 +69,14 @@ static void end_process(void)
     if (findings.count == 0)
         return;
     end_reports(&last()->reports);
-    end_reports(&last()->silenced);
+    end_reports(&last()->ignored);
 }
 
 static void begin_process(char **field)
 {
     end_process();
     struct found *found = findings_add(&findings, field[1], atol(field[0]));
-    found->reports.notes = found->silenced.notes = &found->notes;
+    found->reports.notes = found->ignored.notes = &found->notes;
     found->notes.has_callers = true;
     telling = &found->reports;
 }
@@ -151,7 +151,7 @@ static bool read_of_process(const char *word, char **field, size_t fields)
     else if (!strcmp(word, "step"))
         add_step(field);
     else if (!strcmp(word, "silenced"))
-        telling = &last()->silenced;
+        telling = &last()->ignored;
     else if (!strcmp(word, "waits"))
         reports_add(reports, *field[0] == 'c' ? REPORT_CIRCLE : REPORT_SELF, field[0]);
     else if (!strcmp(word, "wait") || !strcmp(word, "hold"))

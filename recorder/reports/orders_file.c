@@ -42,28 +42,24 @@ static bool is_kept(const struct learnt_order *order)
 
 void learnt_print(FILE *to, const struct learnt *learnt)
 {
-    size_t *sorted = learnt_sorted(learnt);
     for (size_t i = 0; i < learnt->orders; i++) {
-        const struct learnt_order *order = &learnt->order[sorted[i]];
+        const struct learnt_order *order = &learnt->order[i];
         if (is_kept(order))
             fprintf(to, "%s%s%s\n", order->key, *order->origin ? "\t# " : "", order->origin);
     }
-    free(sorted);
 }
 
 /* `runs N`, then `COUNT LAST ORDER` for each. */
 static void print_counts(FILE *to, const struct learnt *learnt)
 {
-    size_t *sorted = learnt_sorted(learnt);
     fprintf(to, "runs %lu\n", learnt->runs ? learnt->runs : 1);
     for (size_t i = 0; i < learnt->orders; i++) {
-        const struct learnt_order *order = &learnt->order[sorted[i]];
+        const struct learnt_order *order = &learnt->order[i];
         if (is_kept(order) && order->last)
             fprintf(to, "%lu %lu %s\n", order->runs, order->last, order->key);
         else if (is_kept(order))
             fprintf(to, "%lu %s\n", order->runs, order->key);
     }
-    free(sorted);
 }
 
 /* 0, or why that can't be. */

@@ -1,0 +1,12 @@
+use Rattle.std.proofs.Common.{◌≡◌, ◌++◌, length}
+use Rattle.wit_merge.specs.Rows.{rows_of}
+use Rattle.wit_merge.specs.Texts.{rows_text}
+use Rattle.wit_merge.proofs.texts.put_rows.Given as goal
+
+-- the text, and that of the rest, are the whole
+abbrev pub invariant-loop-key : goal.invariant-loop-key
+invariant-loop-key l =
+    l.text.items ++ rows_text (rows_of l.rest) ≡ l.initial.text.items ++ rows_text (rows_of l.fn.rows)
+
+abbrev pub decreases-loop-key : goal.decreases-loop-key
+decreases-loop-key l = length l.rest

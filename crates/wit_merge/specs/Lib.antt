@@ -1,0 +1,10 @@
+pub mod Existing
+pub mod Flaws
+pub mod Lines
+pub mod Merging
+pub mod Outputs
+pub mod Reading
+pub mod Rows
+pub mod Showing
+pub mod Standing
+pub mod Texts
