@@ -242,7 +242,7 @@ int main()
 }
 ANY
     g++ -g -pthread -o whole whole.cc
-    "$record" -o kept --graph whole.dot --json whole.json -- ./whole 2>recorded.err
+    "$record" -o kept --html whole.html --json whole.json -- ./whole 2>recorded.err
     name=a_namespace_with_a_long_name::and_one_in_it_that_is_longer_still::Account::
     diff - recorded.err <<ANY
 lock order reversal:
@@ -253,8 +253,8 @@ established order:
 record: 1 report, 0 circles, 1 process
 ANY
     tell whole "in a report" $?
-    grep -qF "\"${name}first\" -> \"${name}second\"" whole.dot && grep -qF "\"${name}second/2\"" whole.json
-    tell whole "in a graph and in JSON" $?
+    grep -qF "${name}first" whole.html && grep -qF "${name}second" whole.html && grep -qF "\"${name}second/2\"" whole.json
+    tell whole "in a page and in JSON" $?
     head=$(printf '%.54s' $name)
     [ "$(sed -n 's/^init 1 mtx - "\([^"]*\)".*/\1/p' kept | sort -u | grep -cx "$head~[0-9a-f]\{8\}")" -eq 4 ] &&
         "$WITNESS" replay <kept >replayed
