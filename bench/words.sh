@@ -89,13 +89,17 @@ awk -v folder="$folder/runs" 'BEGIN {
 }'
 (cd "$folder/runs" && for file in *; do LC_ALL=C sort -u -o "$file" "$file"; done && cat -- *) >"$folder/orders"
 : >"$folder/nothing"
-printf 'witness-recorder 6\n' >"$folder/recording"
+# A process that asked for nothing.
+echo 'asked 0 version 8 missed' >"$folder/recording"
 
 echo '| Of what | s of a processor | MB |'
 echo '|---|---|---|'
 row "\`import plain\` of $(wc -l <"$folder/plain") lines" "$folder/plain" "$program" import plain
 row "\`replay\` of $(wc -l <"$folder/pairs") lines with 500 reports" "$folder/pairs" "$program" replay
-row "\`forecast\` of these" "$folder/pairs" "$program" forecast
+"$program" migrate <"$folder/pairs" >"$folder/pairs2" || :
+row "\`forecast\` of these, in version 2" "$folder/pairs2" "$program" forecast
 row "\`sort -m -u\` of 1,000 files of orders, $(wc -l <"$folder/orders") lines" "$folder/nothing" \
     env LC_ALL=C sh -c 'cd "$0" && exec sort -m -u -- *' "$folder/runs"
 row "\`orders judge\` of these lines" "$folder/orders" "$program" orders judge
+row "\`orders merge\` of them" "$folder/orders" "$program" orders merge
+row "\`findings\` of a recording without locks" "$folder/recording" "$program" findings
