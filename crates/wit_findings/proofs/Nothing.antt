@@ -1,6 +1,7 @@
 -- What is written where nothing was read.
 use Rattle.std.proofs.Common.{◌≡◌, ℕ, List, [], Option, Some, None, Result, Ok, Err, OnErr, refl}
 use Rattle.std.proofs.KnownBytes.{Appends-nil}
+use Rattle.std.specs.Global.{Vec}
 use Rattle.wit_stream.specs.Stream.{IsInput, WritesFront}
 use Rattle.wit_stream.specs.Text.{text_of}
 use Rattle.wit_findings.specs.Existing.{some_findings}
@@ -12,10 +13,11 @@ input-of None = ([], tt)
 input-of (Some bytes) = (bytes, refl)
 
 -- nothing was written
-nothing-written : (read written : Option (List ℕ)) → WritesFront Finds read written written
-nothing-written read written =
+nothing-written : {X : Type 0} (vec : Vec X) (read written : Option (List ℕ))
+    → WritesFront Finds read written written
+nothing-written vec read written =
     let input = input-of read in
-    let some = some_findings nothing_told 1 (text_of input.0).lines (text_of input.0).tail in
+    let some = some_findings vec nothing_told 1 (text_of input.0).lines (text_of input.0).tail in
     record {
       input = input.0;
       text = some.0;
@@ -25,7 +27,7 @@ nothing-written read written =
       written = (0, Appends-nil written);
     }
 
-pub nothing-where-refused : {X E : Type 0} (answer : Result X E) (read written : Option (List ℕ))
-    → OnErr answer (WritesFront Finds read written written)
-nothing-where-refused (Ok x) read written = tt
-nothing-where-refused (Err e) read written = nothing-written read written
+pub nothing-where-refused : {X E Y : Type 0} (vec : Vec Y) (answer : Result X E)
+    (read written : Option (List ℕ)) → OnErr answer (WritesFront Finds read written written)
+nothing-where-refused vec (Ok x) read written = tt
+nothing-where-refused vec (Err e) read written = nothing-written vec read written

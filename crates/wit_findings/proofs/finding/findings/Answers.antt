@@ -6,7 +6,7 @@ use Rattle.wit_findings.proofs.Nothing.{nothing-where-refused}
 use Rattle.wit_findings.proofs.finding.findings.Goals as goal
 
 pub returns-in_err-machine-clause-err : goal.returns-in_err-machine-clause-err
-returns-in_err-machine-clause-err g c = nothing-where-refused _ _ _
+returns-in_err-machine-clause-err g c = nothing-where-refused c.new-others.result _ _ _
 
 pub returns-clause-taken : goal.returns-clause-taken
 returns-clause-taken g c =
