@@ -1,12 +1,13 @@
--- What is written where nothing was read.
-use Rattle.std.proofs.Common.{◌≡◌, ℕ, List, [], Option, Some, None, Result, Ok, Err, OnErr, refl}
+-- What is written where nothing was read, or up to a failure.
+use Rattle.std.proofs.Common.{◌≡◌, ℕ, List, [], Option, Some, None, Result, Ok, Err, OnErr, subst, refl}
 use Rattle.std.proofs.KnownBytes.{Appends-nil}
 use Rattle.std.specs.Global.{Vec}
-use Rattle.wit_stream.specs.Stream.{IsInput, WritesFront}
+use Rattle.wit_stream.specs.Stream.{IsInput, OutputFrom, WritesFront}
 use Rattle.wit_stream.specs.Text.{text_of}
 use Rattle.wit_findings.specs.Existing.{some_findings}
-use Rattle.wit_findings.specs.Findings.{Finds}
-use Rattle.wit_findings.specs.Runs.{nothing_told}
+use Rattle.wit_findings.specs.declared.processes.Processes.{Processes}
+use Rattle.wit_findings.specs.Findings.{Finds, FindsFrom, allowed}
+use Rattle.wit_findings.specs.Runs.{known, nothing_told}
 
 input-of : (read : Option (List ℕ)) → (input : List ℕ) × IsInput read input
 input-of None = ([], tt)
@@ -26,6 +27,15 @@ nothing-written vec read written =
       is_output = some.1.1;
       written = (0, Appends-nil written);
     }
+
+-- where the machine knows nothing yet, what it writes up to a failure is a front of findings
+pub run-front : {X E : Type 0} (m : Processes) (is : known m ≡ nothing_told) (answer : Result X E)
+    (read before after : Option (List ℕ))
+    → OnErr answer (WritesFront (OutputFrom allowed m 1) read before after)
+    → OnErr answer (WritesFront Finds read before after)
+run-front m is (Ok x) read before after h = tt
+run-front m is (Err e) read before after h =
+    subst (λ t. WritesFront (FindsFrom t 1) read before after) is h
 
 pub nothing-where-refused : {X E Y : Type 0} (vec : Vec Y) (answer : Result X E)
     (read written : Option (List ℕ)) → OnErr answer (WritesFront Finds read written written)
