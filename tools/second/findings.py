@@ -6,17 +6,20 @@
 The second one writes the recording, with a name for each type before its first lock.
 """
 
+import copy
 import json
 import re
 import sys
 
 from calls import Verifier
+from grades import Heard, lost_in
 from rules import CLASSES, Fault, ON
 from verdict import GIANT, PLAIN, SLEEPABLE
 
 VERSION, LONGEST, SEATS = 8, 4096, 256
-PASSED = set("program object called blind place either site stack type crowded lent time pair errand many life joined went"
-             " answer holder owner".split())
+PASSED = set("program object called blind place either site stack type crowded lent time errand went answer holder owner"
+             .split())
+HEARD = {"pair", "many", "life", "joined"}
 KINDS = {PLAIN: "reversal", SLEEPABLE: "sleepable", GIANT: "giant"}
 NAME = r'"([ !#-~]{1,63})"'
 CLASS = "|".join(CLASSES)
@@ -26,7 +29,7 @@ FIELDS = {
     "init": rb"S (" + CLASS.encode() + rb") (-|s|r|rs) N N( .*)?", "thread": rb"S [^ ]* N N",
     "check": rb"S N ([sx]) [nk] N( N)?", "try": rb"S N ([sx]) N( N)?", "lock": rb"S N", "giveup": rb"S N",
     "unlock": rb"S N ([sx])", "again": rb"S N N", "foreign": rb"S N N",
-    "error": rb"(ended|destroyed|freed|remade|waited|reread) S N N", "process": rb"N",
+    "error": rb"(ended|destroyed|freed|remade|waited|reread) S N N", "process": rb"N", "grade": rb"N",
 }
 
 
@@ -44,8 +47,8 @@ def fields(line):
     """The word of a line and what it says, or None."""
     word, space, rest = line.partition(b" ")
     word = word.decode("latin-1")
-    if word in PASSED:
-        return word, [], []
+    if word in PASSED or word in HEARD:
+        return word, [], [rest]
     if word not in FIELDS:
         return None
     if word == "look":
@@ -83,6 +86,7 @@ class Recording(Verifier):
         self.calls = self.bad = 0
         self.giant = False
         self.shown, self.way = [], []
+        self.heard, self.circles = Heard(), {}  # of reports of orders, by their lines, the types
 
     # What a report shows, in place of its text.
     def lock_text(self, place, lock, site):
@@ -124,7 +128,24 @@ class Recording(Verifier):
             finding["third"] = locks[0]
         if not duplicate:
             finding["path"] = [self.order(*step) for step in self.way]
+        self.circles[number] = [locks[-1]["type"]] + [step["to"] for step in finding.get("path", [])]
         return [finding]
+
+    def graded(self, line):
+        """The grade of the report of that line: there may be several circles, so it says what is against one."""
+        if line not in self.circles:
+            raise ValueError("syntax")
+        circle, heard = self.circles[line], copy.deepcopy(self.heard)
+        types = {number for number, name in self.names.items() if name in circle}
+        return [{"finding": "grade", "line": line,
+                 "against": lambda finding: heard.differs(finding, types, len(circle))}]
+
+    def hears(self, word, rest):
+        if word == "many":
+            self.heard.many = True
+        else:
+            {"pair": self.heard.pair, "life": self.heard.life, "joined": self.heard.joined}[word](rest)
+        return []
 
     def called(self, number, call, *arguments):
         self.shown, self.way = [], []
@@ -153,7 +174,13 @@ class Recording(Verifier):
                  "lock": lock, "type": type, "place": place}]
 
     def enter(self, number, word, at, words):
-        if word == "name":
+        if word in HEARD:
+            return self.hears(word, words[0])
+        if word == "asked":
+            self.heard.lost = self.heard.lost or lost_in("".join(words).encode("latin-1"))
+        elif word == "grade":
+            return self.graded(at[0])
+        elif word == "name":
             if at[0] in self.names:
                 raise ValueError("syntax")
             self.names[at[0]] = words[0]
@@ -298,4 +325,5 @@ if __name__ == "__main__":
         sys.stdout.buffer.write(b"".join(named(sys.stdin.buffer.read())))
     else:
         for finding in findings(sys.stdin.buffer.read()):
+            finding.pop("against", None)
             print(json.dumps(finding, separators=(",", ":"), ensure_ascii=False))

@@ -1,5 +1,5 @@
 -- What a grade says of facts.
-use Rattle.std.specs.Prelude.{◌≡◌, Bool, true, false, List}
+use Rattle.std.specs.Prelude.{◌≡◌, ℕ, Bool, true, false, not, List}
 use Rattle.wit_alarms.specs.declared.facts.Fact.{Fact}
 use Rattle.wit_alarms.specs.declared.facts.Lives.{Lives}
 use Rattle.wit_alarms.specs.declared.facts.Reasons.{Reasons}
@@ -20,6 +20,19 @@ all_but Readers = record all_reasons { readers = false }
 all_but Limit = record all_reasons { timed = false }
 all_but Apart = record all_reasons { apart = false }
 all_but Waits = record all_reasons { waits = false }
+
+-- this reason, and no other
+abbrev pub only : Reason → Reasons
+only OneThread = record no_reasons { one_thread = true }
+only Gate = record no_reasons { gate = true }
+only Readers = record no_reasons { readers = true }
+only Limit = record no_reasons { timed = true }
+only Apart = record no_reasons { apart = true }
+only Waits = record no_reasons { waits = true }
+
+-- whether this reason by itself keeps the circle from closing
+abbrev pub keeps_alone : Reason → Lives → List Fact → List ℕ → Bool
+keeps_alone reason lives facts circle = not (closes (only reason) lives facts circle)
 
 -- why no circle closes: there is none of single locks; or there is one that only this reason keeps
 -- from it; or there is one, but none that a single reason keeps from it

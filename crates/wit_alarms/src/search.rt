@@ -25,8 +25,8 @@ pub(crate) struct Search<'a> {
 }
 
 impl Search<'_> {
-    // Whether the thread of the one fact waits for that of the other.
-    fn waits(&self, one: usize, other: usize) -> bool
+    /// Whether the thread of the one fact waits for that of the other.
+    pub fn waits(&self, one: usize, other: usize) -> bool
         ensures { result ≡ of_both (can_wait self.now.why) self.now.facts.now one other }
     {
         match (self.facts.get(one), self.facts.get(other)) {
@@ -35,8 +35,8 @@ impl Search<'_> {
         }
     }
 
-    // Whether both can be held at one time.
-    fn meet(&self, one: usize, other: usize) -> bool
+    /// Whether both can be held at one time.
+    pub fn meet(&self, one: usize, other: usize) -> bool
         ensures { result ≡ of_both (can_meet self.now.why self.now.lives.now) self.now.facts.now
             one other }
     {
@@ -74,7 +74,8 @@ impl Search<'_> {
         path.iter().all(|&place| self.meet(place, next))
     }
 
-    fn any_begins(&self, path: &[usize]) -> bool
+    /// Whether the wait of one of these facts' threads may have begun last.
+    pub fn any_begins(&self, path: &[usize]) -> bool
         ensures { result ≡ list_any (may_begin self.now.why self.now.facts.now) path.now }
     {
         path.iter().any(|&place| self.may_begin(place))

@@ -17,8 +17,8 @@ use Rattle.wit_findings.specs.declared.processes.Processes.{Processes}
 use Rattle.wit_findings.specs.Findings.{AfterOutcome, Ends, EndsAfter, EntersRun, FindsLines}
 use Rattle.wit_findings.specs.Findings.{StepsBy, allowed, at_tail, outcome_at}
 use Rattle.wit_findings.specs.Runs.{Run, known, with_now}
-use Rattle.wit_findings.specs.Steps.{After, IsAfter, Outcome, Tells, Shows, Turns, Stops, outcome}
-use Rattle.wit_findings.specs.Steps.{refused}
+use Rattle.wit_findings.specs.Steps.{After, IsAfter, Outcome, Tells, Shows, Grades, Turns, Stops}
+use Rattle.wit_findings.specs.Steps.{outcome, refused}
 use Rattle.wit_findings.specs.Told.{told}
 
 not-longer : (n : ℕ) → n ≤ LONGEST → nat_lt LONGEST n ≡ false
@@ -50,6 +50,13 @@ goes-on old n Shows new before goes on enters next more summary go = record {
   tells = enters.1;
   goes_on = subst (λ u. next u more) enters.0 go;
 }
+goes-on old n (Grades report) new before goes on enters next more summary go = record {
+  first = before;
+  rest = more;
+  parted = refl;
+  tells = enters.1;
+  goes_on = subst (λ u. next u more) enters.0 go;
+}
 goes-on old n (Turns process) new before goes on enters next more summary go = record {
   first = before;
   rest = more;
@@ -67,6 +74,8 @@ stops : (old : Run) (n : ℕ) (o : Outcome) (new : Run) (before : List ℕ) (goe
 stops old n (Tells a) new before goes off enters next text summary ends =
     absurd (true≢false (sym enters.2 ∙ off))
 stops old n Shows new before goes off enters next text summary ends =
+    absurd (true≢false (sym enters.2 ∙ off))
+stops old n (Grades report) new before goes off enters next text summary ends =
     absurd (true≢false (sym enters.2 ∙ off))
 stops old n (Turns process) new before goes off enters next text summary ends =
     absurd (true≢false (sym enters.2 ∙ off))

@@ -15,7 +15,9 @@ use Rattle.wit_findings.specs.declared.processes.Processes.{Processes}
 use Rattle.wit_findings.specs.Objects.{count_member, head_tokens, line_text}
 use Rattle.wit_findings.specs.Runs.{Run, in_order, known, nothing_told, turned, with_now}
 use Rattle.wit_findings.specs.States.{IsState}
-use Rattle.wit_findings.specs.Steps.{After, Outcome, Tells, Shows, Turns, Stops, nothing, outcome}
+use Rattle.wit_findings.specs.Graded.{TellsGrade}
+use Rattle.wit_findings.specs.Steps.{After, Outcome, Tells, Shows, Grades, Turns, Stops, nothing}
+use Rattle.wit_findings.specs.Steps.{outcome}
 use Rattle.wit_findings.specs.Steps.{refused}
 use Rattle.wit_findings.specs.Told.{Told}
 
@@ -100,6 +102,7 @@ abbrev pub AfterOutcome : Run → ℕ → Outcome → (Run → List ℕ → Type
 AfterOutcome r n (Tells a) next text summary =
     GoesOn (λ told. told ≡ a.text) (next (with_now r a.told)) text
 AfterOutcome r n Shows next text summary = GoesOn (IsState r.now) (next r) text
+AfterOutcome r n (Grades report) next text summary = GoesOn (TellsGrade r.now report) (next r) text
 AfterOutcome r n (Turns process) next text summary =
     GoesOn (λ told. told ≡ []) (next (turned r n process)) text
 AfterOutcome r n (Stops a) next text summary = EndsAfter r a text summary
@@ -135,6 +138,8 @@ allowed p n lines tail text summary = FindsLines (known p) n lines tail text sum
 abbrev pub Enters : Told → Outcome → Told → List ℕ → Bool → Type 0
 Enters old (Tells a) new text goes = (new ≡ a.told) × (text ≡ a.text) × (goes ≡ true)
 Enters old Shows new text goes = (new ≡ old) × IsState old text × (goes ≡ true)
+Enters old (Grades report) new text goes =
+    (new ≡ old) × TellsGrade old report text × (goes ≡ true)
 Enters old (Turns process) new text goes = (new ≡ old) × (text ≡ []) × (goes ≡ true)
 Enters old (Stops a) new text goes = (new ≡ a.told) × (text ≡ a.text) × (goes ≡ false)
 
@@ -143,6 +148,8 @@ abbrev pub EntersRun : Run → ℕ → Outcome → Run → List ℕ → Bool →
 EntersRun old n (Tells a) new text goes =
     (new ≡ with_now old a.told) × (text ≡ a.text) × (goes ≡ true)
 EntersRun old n Shows new text goes = (new ≡ old) × IsState old.now text × (goes ≡ true)
+EntersRun old n (Grades report) new text goes =
+    (new ≡ old) × TellsGrade old.now report text × (goes ≡ true)
 EntersRun old n (Turns process) new text goes =
     (new ≡ turned old n process) × (text ≡ []) × (goes ≡ true)
 EntersRun old n (Stops a) new text goes =

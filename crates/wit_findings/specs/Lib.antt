@@ -1,5 +1,6 @@
 pub mod Existing
 pub mod Findings
+pub mod Graded
 pub mod Objects
 pub mod Reports
 pub mod Runs

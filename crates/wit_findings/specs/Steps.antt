@@ -25,6 +25,9 @@ use Rattle.wit_recorded.specs.declared.lines.TheConstants.{VERSION}
 use Rattle.wit_recorded.specs.Reading.{makes_lock}
 use Rattle.wit_findings.specs.declared.spots.Spot.{Spot}
 use Rattle.wit_findings.specs.declared.spots.TheConstants.{MOST_SPOTS}
+use Rattle.wit_tellings.specs.Heard.{Heard, with_join, with_life, with_lost, with_many, with_pair}
+use Rattle.wit_findings.specs.declared.recording.Reported.{Reported}
+use Rattle.wit_findings.specs.Graded.{report_at, with_reported}
 use Rattle.wit_findings.specs.Objects.{finding_tokens, line_text, text_member}
 use Rattle.wit_findings.specs.Reports.{error_tokens, reply_text}
 use Rattle.wit_findings.specs.Told.{Told, lock_number, named_type, thread_of}
@@ -60,7 +63,7 @@ refused t n cause = record {
 -- the verifier's answer is told
 abbrev pub answered : Told → ℕ → ℕ → Call → Result Reply Fault → After
 answered t n seat call (Ok reply) =
-    let after = record t { story = grown t.story seat call reply } in
+    let after = with_reported (record t { story = grown t.story seat call reply }) n reply in
     record { told = after; text = reply_text after n reply }
 answered t n seat call (Err fault) = refused t n (why.Fault fault)
 
@@ -158,23 +161,36 @@ seats t n seat thread =
     then nothing (record t { threads = with_changed t.threads seat thread })
     else refused t n (why.Fault UnknownSeat)
 
+-- ---- single locks and threads
+
+abbrev pub with_heard : Told → Heard → After
+with_heard t h = nothing (record t { heard = h })
+
 -- ---- a line
 
--- what becomes of a line: it is told and the reading goes on; the moment is shown; the lines after it
--- are of the process with this number; or the reading ends, once it was told
+-- what becomes of a line: it is told and the reading goes on; the moment is shown; the report's grade
+-- is told; the lines after it are of the process with this number; or the reading ends, once it was
+-- told
 pub data Outcome : Type 0 where
   Tells : After → Outcome
   Shows : Outcome
+  Grades : Reported → Outcome
   Turns : ℕ → Outcome
   Stops : After → Outcome
 
-abbrev pub begins : Told → ℕ → ℕ → Outcome
-begins t n version =
-    if version == VERSION then Tells (nothing t) else Stops (refused t n why.Version)
+abbrev pub begins : Told → ℕ → ℕ → Bool → Outcome
+begins t n version lost =
+    if version == VERSION then Tells (with_heard t (with_lost t.heard lost))
+    else Stops (refused t n why.Version)
+
+-- there has to be such a report
+abbrev pub grades : Told → ℕ → Option Reported → Outcome
+grades t n None = Tells (refused t n why.Syntax)
+grades t n (Some report) = Grades report
 
 -- a line that says this
 abbrev pub outcome_of : Told → ℕ → Line → Outcome
-outcome_of t n (said.Begun version) = begins t n version
+outcome_of t n (said.Begun version lost) = begins t n version lost
 outcome_of t n (said.Name number name) = Tells (names t n number name)
 outcome_of t n (said.Init seat class recursive of) =
     Tells (makes t n seat.0 class recursive (named_type t.names of))
@@ -189,6 +205,12 @@ outcome_of t n (said.Unlock seat lock mode) =
     Tells (calls t n seat.0 (call.Unlock (record { 0 = lock_number t lock.0 }) mode))
 outcome_of t n (said.Error what seat lock place) =
     Tells (record { told = t; text = line_text (error_tokens t n what seat.0 lock.0 place) })
+outcome_of t n (said.Pair pair) = Tells (with_heard t (with_pair t.heard pair))
+outcome_of t n said.Many = Tells (with_heard t (with_many t.heard))
+outcome_of t n (said.Life thread maker at) =
+    Tells (with_heard t (with_life t.heard thread maker at))
+outcome_of t n (said.Joined thread by at) = Tells (with_heard t (with_join t.heard thread by at))
+outcome_of t n (said.Grade line) = grades t n (report_at t.reports line)
 outcome_of t n said.Look = Shows
 outcome_of t n (said.Process process) = Turns process
 outcome_of t n said.Passed = Tells (nothing t)

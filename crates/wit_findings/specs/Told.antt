@@ -8,12 +8,15 @@ use Rattle.wit_model.specs.declared.sizes.TheConstants.Limits.{MOST_CHUNKS, MOST
 use Rattle.wit_model.specs.Rules.Numbers.{with_number}
 use Rattle.wit_model.specs.Rules.Sizes.{sizes_of}
 use Rattle.wit_model.specs.Rules.State.{Start, Story, fresh}
+use Rattle.wit_tellings.specs.Heard.{Heard, heard, nothing_heard}
 use Rattle.wit_findings.specs.declared.recording.Recording.{Recording}
+use Rattle.wit_findings.specs.declared.recording.Reported.{Reported}
 use Rattle.wit_findings.specs.declared.spots.Spot.{Spot}
 
--- the number of the process, where it has one; the verifier's story; the types' names by their numbers; for each lock of the recording its number
--- in the story, 0 where it is none there, and the other way round; for each seat the thread that has
--- it, 0 where none is known; where locks were asked for; how many lines were bad, and the first
+-- the number of the process, where it has one; the verifier's story; the types' names by their numbers;
+-- for each lock of the recording its number in the story, 0 where it is none there, and the other way
+-- round; for each seat the thread that has it, 0 where none is known; where locks were asked for; what
+-- was told of single locks and of threads; the reports of orders; how many lines were bad, and the first
 pub record Told : Type 0 where
   pub process : Option ℕ
   pub story : Story
@@ -22,6 +25,8 @@ pub record Told : Type 0 where
   pub made : List ℕ
   pub threads : List ℕ
   pub spots : List Spot
+  pub heard : Heard
+  pub reports : List Reported
   pub bads : ℕ
   pub bad : Option (ℕ × Cause)
 
@@ -34,6 +39,8 @@ told r = record {
   made = r.made.items;
   threads = r.threads.items;
   spots = r.spots.items;
+  heard = heard r.tellings;
+  reports = r.reports.items;
   bads = r.bads;
   bad = r.bad;
 }
@@ -61,6 +68,8 @@ nothing_of process = record {
   made = [];
   threads = no_threads;
   spots = [];
+  heard = nothing_heard;
+  reports = [];
   bads = 0;
   bad = None;
 }

@@ -50,7 +50,8 @@ pub fn findings<R: BufRead, W: Write>(
         (R.remaining input.old) (R.remaining input.new)
         (W.contents output.old) (W.contents output.new) }
 {
-    let mut machine = Processes::new(alloc)?;
+    let others = Vec::new(alloc);
+    let mut machine = Processes::new(alloc, others)?;
     run(
         alloc,
         &mut Failures::new(),

@@ -4,6 +4,7 @@
 
 mod errors;
 mod finding;
+mod grades;
 mod objects;
 mod processes;
 mod recording;

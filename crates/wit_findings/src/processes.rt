@@ -23,16 +23,17 @@ pub struct Processes {
 }
 
 impl Processes {
-    /// Lines are of a process without a number at first, of which nothing is known.
+    /// Lines are of a process without a number at first, of which nothing is known. There are no others.
     ///
     /// # Errors
     /// Want of memory alone.
-    pub fn new(alloc: Global) -> Result<Processes, AllocError>
+    pub fn new(alloc: Global, others: Vec<Recording>) -> Result<Processes, AllocError>
+        requires { others.items ≡ [] }
         ensures { IfOk result (λ p. known p ≡ nothing_told) }
     {
         Ok(Processes {
             current: Recording::new(alloc, None)?,
-            others: Vec::new(alloc),
+            others,
         })
     }
 

@@ -1,8 +1,9 @@
 //! What is known of a recording.
 
-ghost use Rattle.std.specs.Prelude.{◌≡◌, None, IfOk};
+ghost use Rattle.std.specs.Prelude.{◌≡◌, None, IfOk, length};
 ghost use Rattle.std.specs.Option.{option_copied};
 ghost use Rattle.wit_model.specs.Rules.Numbers.{with_number};
+ghost use Rattle.wit_model.specs.Trace.Paths.{type_numbers};
 ghost use Rattle.wit_model.specs.declared.locks.LockNo.{LockNo};
 ghost use Rattle.wit_findings.specs.Told.{lock_number, named_type, no_threads, nothing_of};
 ghost use Rattle.wit_findings.specs.Told.{number_of};
@@ -10,8 +11,57 @@ ghost use Rattle.wit_findings.specs.Told.{thread_of, told};
 
 use crate::spots::Spot;
 use std::alloc::{AllocError, Global};
+use std::marker::Model;
 use wit_core::Verifier;
-use wit_model::{Cause, Limits, LockNo, Name, SeatNo};
+use wit_model::{Cause, Limits, LockNo, Name, SeatNo, TypeNo};
+use wit_tellings::Tellings;
+
+/// Types, one after another.
+#[derive(Drop)]
+pub struct Way {
+    types: Vec<TypeNo>,
+}
+
+impl Model for Way {
+    ghost use Rattle.std.specs.Prelude.{ℕ, List};
+    ghost use Rattle.wit_model.specs.Trace.Paths.{type_numbers};
+
+    ghost Value = { List ℕ };
+
+    ghost view = { λ w. type_numbers w.types.items };
+}
+
+impl Way {
+    /// These.
+    pub fn new(types: Vec<TypeNo>) -> Way
+        ensures { result ≡ type_numbers types.items }
+    {
+        Way { types }
+    }
+
+    /// How many there are.
+    pub fn count(&self) -> usize
+        ensures { result ≡ length self.now }
+    {
+        self.types.len()
+    }
+
+    /// Each of them.
+    pub fn types(&self) -> &[TypeNo]
+        ensures { type_numbers result.now ≡ self.now }
+    {
+        &self.types
+    }
+}
+
+/// A report of an order, or of a second lock of a type.
+#[derive(Drop)]
+pub struct Reported {
+    /// The number of its line.
+    pub line: u64,
+    /// The types of its circle: the one of the lock that was asked for first.
+    pub types: Way,
+}
 
 /// What is known of the recording of a process so far.
 #[derive(Drop)]
@@ -29,6 +79,10 @@ pub struct Recording {
     pub threads: Vec<u32>,
     /// Where locks were asked for: the verifier has their numbers as lines.
     pub spots: Vec<Spot>,
+    /// What was told of single locks and of threads.
+    pub tellings: Tellings,
+    /// The reports of orders.
+    pub reports: Vec<Reported>,
     /// How many lines were bad, and the first.
     pub bads: u64,
     pub bad: Option<(u64, Cause)>,
@@ -50,6 +104,8 @@ impl Recording {
             made: Vec::new(alloc),
             threads: no_threads(alloc)?,
             spots: Vec::new(alloc),
+            tellings: Tellings::new(alloc),
+            reports: Vec::new(alloc),
             bads: 0,
             bad: None,
         })

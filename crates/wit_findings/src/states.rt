@@ -121,7 +121,8 @@ fn put_lock_of_seat(
     put_line(text, json)
 }
 
-fn mode_words(mode: Mode) -> &'static str
+/// A mode as a word.
+pub fn mode_words(mode: Mode) -> &'static str
     ensures { result.now ≡ mode_words mode }
 {
     match mode {

@@ -1,17 +1,21 @@
 //! What becomes of a line.
 
-ghost use Rattle.std.specs.Prelude.{◌≡◌, ◌<◌, ◌≤◌, ◌+◌, [], IfOk, OnOk};
+ghost use Rattle.std.specs.Prelude.{◌≡◌, ◌<◌, ◌≤◌, ◌+◌, ◌++◌, [], true, IfOk, OnOk};
+ghost use Rattle.std.specs.Option.{option_copied};
 ghost use Rattle.wit_model.specs.Trace.Output.{cause_text};
 ghost use Rattle.wit_recorded.specs.Reading.{line_of};
 ghost use Rattle.wit_findings.specs.Findings.{Enters};
-ghost use Rattle.wit_findings.specs.Steps.{IsAfter, asks, calls, checks, has_room, makes, names};
+ghost use Rattle.wit_findings.specs.Graded.{if_any, report_at, with_reported, with_reports};
+ghost use Rattle.wit_findings.specs.Reports.{reply_text};
+ghost use Rattle.wit_findings.specs.Steps.{IsAfter, asks, calls, checks, grades, has_room, makes, names};
 ghost use Rattle.wit_findings.specs.Steps.{next_site, outcome, outcome_of, refused, seats, spot_of};
 ghost use Rattle.wit_findings.specs.Steps.{tries, unread, with_spot};
 ghost use Rattle.wit_findings.specs.Told.{named_type, told};
 
 use crate::errors::put_error;
+use crate::grades::{grade_text, reported};
 use crate::objects::{finding, put_line, put_text};
-use crate::recording::{Recording, named_type};
+use crate::recording::{Recording, Reported, named_type};
 use crate::reports::put_reply;
 use crate::spots::{MOST_SPOTS, Spot};
 use crate::states::state_text;
@@ -64,12 +68,18 @@ impl Recording {
             Line::Error(what, seat, lock, place) => {
                 put_error(text, alloc, self, number, what, seat, lock, place)?;
             }
+            Line::Pair(pair) => self.tellings.add_pair(alloc, pair)?,
+            Line::Many => self.tellings.note_many(),
+            Line::Life(thread, maker, at) => self.tellings.add_life(thread, maker, at)?,
+            Line::Joined(thread, by, at) => self.tellings.add_join(thread, by, at)?,
+            Line::Grade(of) => self.grade(alloc, number, of, text)?,
             Line::Look => *text = state_text(alloc, self)?,
-            Line::Begun(version) => {
+            Line::Begun(version, lost) => {
                 if version != VERSION {
                     self.refuse(alloc, number, Cause::Version, text)?;
                     return Ok(false);
                 }
+                self.tellings.note_lost(lost);
             }
             Line::Process(_) | Line::Passed => {}
         }
@@ -143,9 +153,64 @@ impl Recording {
         ensures counted { OnOk result (self.new.bads ≤ self.old.bads + 1) }
     {
         match self.verifier.call(seat, call) {
-            Ok(reply) => put_reply(text, alloc, self, number, &reply),
+            Ok(reply) => self.tell(alloc, number, &reply, text),
             Err(Fault::OutOfMemory) => Err(AllocError),
             Err(fault) => self.refuse(alloc, number, Cause::Fault(fault), text),
+        }
+    }
+
+    // Keeps the report of a reply, if it is one, and tells the reply.
+    fn tell(
+        &mut self,
+        alloc: Global,
+        number: u64,
+        reply: &Reply,
+        text: &mut Vec<u8>,
+    ) -> Result<(), AllocError>
+        ensures known { OnOk result (told self.new ≡ with_reported (told self.old) number reply.now) }
+        ensures told { OnOk result (text.new.items ≡ text.old.items
+            ++ reply_text (told self.new) number reply.now) }
+        ensures counted { OnOk result (self.new.bads ≡ self.old.bads) }
+    {
+        let report = reported(alloc, self, number, reply)?;
+        self.keep_report(report)?;
+        put_reply(text, alloc, self, number, reply)
+    }
+
+    fn keep_report(&mut self, report: Option<Reported>) -> Result<(), AllocError>
+        ensures known { OnOk result (told self.new ≡ with_reports (told self.old) (if_any report)) }
+        ensures counted { OnOk result (self.new.bads ≡ self.old.bads) }
+    {
+        match report {
+            Some(report) => {
+                self.reports.push(report)?;
+                Ok(())
+            }
+            None => Ok(()),
+        }
+    }
+
+    // Tells the grade of the report of that line.
+    fn grade(
+        &mut self,
+        alloc: Global,
+        number: u64,
+        of: u32,
+        text: &mut Vec<u8>,
+    ) -> Result<(), AllocError>
+        requires room { self.old.bads < number }
+        requires empty { text.old.items ≡ [] }
+        ensures enters { OnOk result (Enters (told self.old)
+            (grades (told self.old) number (report_at (told self.old).reports of))
+            (told self.new) text.new.items true) }
+        ensures counted { OnOk result (self.new.bads ≤ self.old.bads + 1) }
+    {
+        match report_at(&self.reports, of) {
+            Some(report) => {
+                *text = grade_text(alloc, self, report)?;
+                Ok(())
+            }
+            None => self.refuse(alloc, number, Cause::Syntax, text),
         }
     }
 
@@ -348,6 +413,13 @@ impl Recording {
         self.threads[place - 1] = thread;
         Ok(())
     }
+}
+
+// The report of that line.
+fn report_at(reports: &[Reported], line: u32) -> Option<&Reported>
+    ensures { option_copied result ≡ report_at reports.now line }
+{
+    reports.iter().find(|report| report.line == u64::from(line))
 }
 
 fn cause_text(cause: Cause) -> &'static str

@@ -51,7 +51,8 @@ module _ {X : Type 0} (some : Vec X) where
   same-length [] = refl
   same-length (g ∷ gs) = ap suc (same-length gs)
 
-  abbrev graded : (t : Told) → fits t ≡ true → (text : List ℕ) × IsGraded t text
+  -- a grade of what was told
+  abbrev pub graded : (t : Told) → fits t ≡ true → (text : List ℕ) × IsGraded t text
   graded t fit =
       let a =
       and_parts (is_short t.made)

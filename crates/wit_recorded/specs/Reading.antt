@@ -14,6 +14,7 @@ use Rattle.wit_recorded.specs.declared.lines.Misuse.{Misuse}
 use Rattle.wit_recorded.specs.declared.lines.Misuse.TheVariants as misuse
 use Rattle.wit_recorded.specs.declared.lines.Word.{Word}
 use Rattle.wit_recorded.specs.declared.lines.Word.TheVariants as word
+use Rattle.wit_recorded.specs.Pairs.{lost_of, pair_of, pair_said, life_said, joined_said, three_of}
 
 -- ---- words
 
@@ -32,13 +33,18 @@ word_text word.Process = codes "process"
 word_text word.Error = codes "error"
 word_text word.Again = codes "again"
 word_text word.Foreign = codes "foreign"
+word_text word.Pair = codes "pair"
+word_text word.Many = codes "many"
+word_text word.Life = codes "life"
+word_text word.Joined = codes "joined"
+word_text word.Grade = codes "grade"
 
 -- the first word of a line that tells something
 unfoldable pub word_named : List ℕ → Option Word
 word_named =
     named word_text (word.Check ∷ word.Lock ∷ word.Unlock ∷ word.Try ∷ word.GiveUp ∷ word.Init
     ∷ word.Name ∷ word.Thread ∷ word.Asked ∷ word.Look ∷ word.Process ∷ word.Error ∷ word.Again
-    ∷ word.Foreign ∷ [])
+    ∷ word.Foreign ∷ word.Pair ∷ word.Many ∷ word.Life ∷ word.Joined ∷ word.Grade ∷ [])
 
 -- that of one which is passed over: it declares code or types, ..
 unfoldable pub is_declaring : List ℕ → Bool
@@ -52,11 +58,9 @@ is_declaring w =
 -- .. or tells what no order of locks depends on
 unfoldable pub is_aside : List ℕ → Bool
 is_aside w =
-    bytes_eq w (codes "time") || (bytes_eq w (codes "pair") || (bytes_eq w (codes "many")
-    || (bytes_eq w (codes "life") || (bytes_eq w (codes "errand")
-    || (bytes_eq w (codes "joined") || (bytes_eq w (codes "went")
+    bytes_eq w (codes "time") || (bytes_eq w (codes "errand") || (bytes_eq w (codes "went")
     || (bytes_eq w (codes "answer") || (bytes_eq w (codes "holder")
-    || bytes_eq w (codes "owner")))))))))
+    || bytes_eq w (codes "owner")))))
 
 abbrev pub is_passed : List ℕ → Bool
 is_passed w = is_declaring w || is_aside w
@@ -137,7 +141,8 @@ thread_of bytes =
 unfoldable pub begun_of : List ℕ → Option Line
 begun_of bytes =
     leading_count bytes >>= λ asked. fixed_at (codes "version") asked.1 >>= λ rest.
-    leading_count rest >>= λ version. Some (said.Begun version.0)
+    leading_count rest >>= λ version.
+    Some (said.Begun version.0 (unwrap_or (lost_of version.1) false))
 
 unfoldable pub look_of : List ℕ → Option Line
 look_of [] = Some said.Look
@@ -170,6 +175,9 @@ misuse_of what bytes =
 unfoldable pub error_of : List ℕ → Option Line
 error_of bytes = field_at misuse_named bytes >>= λ what. misuse_of what.0 what.1
 
+unfoldable pub grade_of : List ℕ → Option Line
+grade_of bytes = whole leading_count bytes >>= λ line. Some (said.Grade line)
+
 -- ---- a line
 
 -- the fields of a line, by its first word
@@ -188,6 +196,11 @@ fields_of word.Process = process_of
 fields_of word.Error = error_of
 fields_of word.Again = misuse_of misuse.Again
 fields_of word.Foreign = misuse_of misuse.Foreign
+fields_of word.Pair = λ bytes. Some (pair_said (pair_of bytes))
+fields_of word.Many = λ bytes. Some said.Many
+fields_of word.Life = λ bytes. Some (life_said (three_of bytes))
+fields_of word.Joined = λ bytes. Some (joined_said (three_of bytes))
+fields_of word.Grade = grade_of
 
 abbrev pub fields_by : Option Word → List ℕ → List ℕ → Option Line
 fields_by None w rest = if is_passed w then Some said.Passed else None

@@ -4,8 +4,9 @@
 
 mod fields;
 mod lines;
+mod pairs;
 mod reading;
 
-pub use lines::{Asked, Line, Misuse, VERSION, Word};
+pub use lines::{Asked, Besides, How, Line, MOST_BESIDES, Misuse, Pair, PairLock, VERSION, Word};
 pub use reading::{makes_lock, recorded_line};
 pub use wit_fields::LineError;

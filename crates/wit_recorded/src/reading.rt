@@ -1,15 +1,17 @@
 //! Reading a line.
 
-ghost use Rattle.std.specs.Prelude.{◌≡◌};
+ghost use Rattle.std.specs.Prelude.{◌≡◌, Some, false, unwrap_or};
 ghost use Rattle.std.specs.Option.{option_copied};
 ghost use Rattle.wit_fields.specs.Fields.{Gives};
 ghost use Rattle.wit_recorded.specs.Reading.{begun_of, check_of, error_of, fields_of, give_up_of};
-ghost use Rattle.wit_recorded.specs.Reading.{init_of, is_aside, is_declaring, is_passed, line_of, lock_of};
+ghost use Rattle.wit_recorded.specs.Pairs.{lost_of};
+ghost use Rattle.wit_recorded.specs.Reading.{grade_of, init_of, is_aside, is_declaring, is_passed, line_of, lock_of};
 ghost use Rattle.wit_recorded.specs.Reading.{look_of, makes_lock, misuse_of, name_of, process_of};
 ghost use Rattle.wit_recorded.specs.Reading.{thread_of, try_of, unlock_of, word_named};
 
 use crate::fields::{at, count, manner, misuse, recursive};
 use crate::lines::{Asked, Line, Misuse, Word};
+use crate::pairs::{joined_line, life_line, lost, pair_line};
 use std::alloc::Global;
 use wit_fields::LineError;
 use wit_fields::names::name;
@@ -72,6 +74,16 @@ fn word_of(first: &[u8]) -> Option<Word>
         Some(Word::Again)
     } else if first == b"foreign".as_slice() {
         Some(Word::Foreign)
+    } else if first == b"pair".as_slice() {
+        Some(Word::Pair)
+    } else if first == b"many".as_slice() {
+        Some(Word::Many)
+    } else if first == b"life".as_slice() {
+        Some(Word::Life)
+    } else if first == b"joined".as_slice() {
+        Some(Word::Joined)
+    } else if first == b"grade".as_slice() {
+        Some(Word::Grade)
     } else {
         None
     }
@@ -105,11 +117,7 @@ fn is_aside(first: &[u8]) -> bool
     ensures { result ≡ is_aside first.now }
 {
     first == b"time".as_slice()
-        || first == b"pair".as_slice()
-        || first == b"many".as_slice()
-        || first == b"life".as_slice()
         || first == b"errand".as_slice()
-        || first == b"joined".as_slice()
         || first == b"went".as_slice()
         || first == b"answer".as_slice()
         || first == b"holder".as_slice()
@@ -134,6 +142,11 @@ fn fields(alloc: Global, word: Word, bytes: &[u8]) -> Result<Line, LineError>
         Word::Error => error(bytes),
         Word::Again => misused(Misuse::Again, bytes),
         Word::Foreign => misused(Misuse::Foreign, bytes),
+        Word::Pair => pair_line(alloc, bytes),
+        Word::Many => Ok(Line::Many),
+        Word::Life => life_line(bytes),
+        Word::Joined => joined_line(bytes),
+        Word::Grade => grade(bytes),
     }
 }
 
@@ -261,8 +274,19 @@ fn begun(bytes: &[u8]) -> Result<Line, LineError>
 {
     let (_, rest) = count(bytes)?;
     let rest = fixed(b"version", rest)?;
-    let (version, _) = count(rest)?;
-    Ok(Line::Begun(version))
+    let (version, rest) = count(rest)?;
+    Ok(Line::Begun(version, is_lost(rest)?))
+}
+
+// Whether the recording lacks calls, or what their thread held; where that isn't told, no.
+fn is_lost(bytes: &[u8]) -> Result<bool, LineError>
+    ensures { Gives (λ lost. lost) result (Some (unwrap_or (lost_of bytes.now) false)) }
+{
+    match lost(bytes) {
+        Ok(lost) => Ok(lost),
+        Err(LineError::Bad(_)) => Ok(false),
+        Err(LineError::Memory) => Err(LineError::Memory),
+    }
 }
 
 #[tactic(auto, unfolding(crate::specs::Reading::look_of))]
@@ -285,6 +309,17 @@ fn process(bytes: &[u8]) -> Result<Line, LineError>
         return Err(LineError::SYNTAX);
     }
     Ok(Line::Process(process))
+}
+
+#[tactic(auto, unfolding(crate::specs::Reading::grade_of))]
+fn grade(bytes: &[u8]) -> Result<Line, LineError>
+    ensures { Gives (λ line. line) result (grade_of bytes.now) }
+{
+    let (line, rest) = count(bytes)?;
+    if !rest.is_empty() {
+        return Err(LineError::SYNTAX);
+    }
+    Ok(Line::Grade(line))
 }
 
 #[tactic(auto, unfolding(crate::specs::Reading::error_of))]
