@@ -25,14 +25,14 @@ fn held(lock: u32) -> Instance {
     }
 }
 
-/// What a list holds: its locks, the newest one first, and how many stand in each chunk.
+/// What a list holds, chunk by chunk, newest chunk first.
 #[derive(PartialEq, Eq, Drop)]
 struct Contents {
     locks: Vec<Instance>,
     counts: Vec<usize>,
 }
 
-fn contents_of<L: Lists>(alloc: Global, lists: &L, list: u16) -> Result<Contents, AllocError>
+fn groups_of<L: Lists>(alloc: Global, lists: &L, list: u16) -> Result<Contents, AllocError>
     requires { IsList (L.chunks lists.now) list }
 {
     let mut locks = Vec::new(alloc);
@@ -40,9 +40,7 @@ fn contents_of<L: Lists>(alloc: Global, lists: &L, list: u16) -> Result<Contents
     let mut spot = lists.newest(list);
     while let Some(at) = spot {
         let chunk = lists.group(list, at);
-        for lock in chunk.iter().rev() {
-            locks.push(*lock)?;
-        }
+        locks.extend_from_slice(chunk)?;
         counts.push(chunk.len())?;
         spot = lists.older(list, at);
     }
@@ -96,21 +94,29 @@ struct Plain {
 }
 
 impl Plain {
+    /// The number of a list's newest chunk; 0 where it has none.
+    fn newest(&self, list: u16) -> u32 {
+        self.placed
+            .iter()
+            .rev()
+            .find(|placed| placed.list == list)
+            .map_or(0, |placed| placed.chunk)
+    }
+
     fn of_list(&self, alloc: Global, list: u16) -> Result<Contents, AllocError> {
         let mut locks = Vec::new(alloc);
-        let mut counts: Vec<usize> = Vec::new(alloc);
-        let mut last = None;
-        for placed in self.placed.iter().rev() {
-            if placed.list != list {
-                continue;
+        let mut counts = Vec::new(alloc);
+        let newest = self.newest(list);
+        for back in 0..newest {
+            let chunk = newest.wrapping_sub(back);
+            let before = locks.len();
+            for placed in self.placed.iter() {
+                if placed.list == list && placed.chunk == chunk {
+                    locks.push(placed.lock)?;
+                }
             }
-            if last != Some(placed.chunk) {
-                counts.push(0)?;
-            }
-            last = Some(placed.chunk);
-            locks.push(placed.lock)?;
-            if let Some(count) = counts.last_mut() {
-                *count = count.wrapping_add(1);
+            if locks.len() > before {
+                counts.push(locks.len().wrapping_sub(before))?;
             }
         }
         Ok(Contents { locks, counts })
@@ -147,12 +153,7 @@ impl Plain {
 
     /// The chunk for a list's next lock; `None` where none is free.
     fn next_chunk(&self, list: u16) -> Option<u32> {
-        let newest = self
-            .placed
-            .iter()
-            .rev()
-            .find(|placed| placed.list == list)
-            .map_or(0, |placed| placed.chunk);
+        let newest = self.newest(list);
         let mut count = 0usize;
         for placed in self.placed.iter() {
             if placed.list == list && placed.chunk == newest {
@@ -207,7 +208,7 @@ fn are_alike(alloc: Global, pool: &Pool, plain: &Plain) -> Result<bool, AllocErr
         if list as usize > pool.lists() {
             return Ok(false);
         }
-        if contents_of(alloc, pool, list)? != plain.of_list(alloc, list)? {
+        if groups_of(alloc, pool, list)? != plain.of_list(alloc, list)? {
             return Ok(false);
         }
     }
@@ -284,11 +285,11 @@ fn last_chunk(rt: HostRuntime) -> Result<(), Fail> {
     assert_eq!(rt; pool.free_chunks(), 0);
     for list in 1..513 {
         assert!(rt; list as usize <= pool.lists());
-        let before = contents_of(alloc, &pool, list)?;
+        let before = groups_of(alloc, &pool, list)?;
         assert_eq!(rt; before.counts.len(), 128);
         assert!(rt; !pool.push(list, held(9)));
         assert!(rt; list as usize <= pool.lists());
-        assert!(rt; contents_of(alloc, &pool, list)? == before);
+        assert!(rt; groups_of(alloc, &pool, list)? == before);
         assert_eq!(rt; pool.free_chunks(), 0);
     }
     Ok(())
