@@ -1,7 +1,7 @@
 -- Words that were read one after another stand at their places.
 use Rattle.std.proofs.Common.{◌≡◌, ℕ, suc, ◌+◌, List, [], ◌∷◌, ◌++◌, length, refl, ap, subst, arith}
 use Rattle.std.specs.Global.{Vec}
-use Rattle.wit_command.specs.CommandLine.{bytes_of}
+use Rattle.witness.specs.CommandLine.{bytes_of}
 use Rattle.witness.specs.Words.{StandFrom}
 
 pub counted : (words : List (Vec ℕ)) → length (bytes_of words) ≡ length words

@@ -2,8 +2,8 @@
 
 ghost use Rattle.std.specs.Prelude.{◌≡◌};
 
+use crate::command::Source;
 use std::io::Write;
-use wit_command::Source;
 use wit_import::Counts;
 use wit_stream::ReplayError;
 use wit_trace::FAILED;
@@ -19,7 +19,7 @@ pub const USAGE: &str = "usage: witness replay|graph|locks|circle|state|clean < 
        witness orders judge < ORDERS
        witness orders merge|text < FILES
        witness orders unseen RUNS < FILES
-       witness html|sarif < REPORT
+       witness html|sarif|text|dot|pictures < REPORT
        witness import plain|lttng < LINES
        witness import ftrace [--no-irq] [--no-readers] < LINES
        witness demo
@@ -41,7 +41,8 @@ With orders judge it reads orders of lock types, a line each. It writes each tha
 it those that lead back, set in and as few as can be, and last how many there are.
 With orders merge, text and unseen it reads files of orders, as record --learn writes them. It writes their orders, each once:
 with how many runs met each (merge), for people (text), or those that the last so many runs didn't meet (unseen).
-With html or sarif it reads the JSON report of record --json, and writes a page for people or a log of SARIF.
+With html, sarif and text it reads the JSON report of record --json, and writes a page for people, a log of SARIF, or what was
+told, for a terminal. With dot it writes the orders of each process for Graphviz, with pictures the graphs that a page shows.
 With import it reads lines that tell how threads acquire and release locks, and writes a trace: of a script (plain), of the
 kernel's ftrace, or of LTTng's pthread wrapper. With --no-irq an interrupt stands for no lock, with --no-readers recursive
 readers are told as others are. What is left out of the trace is counted on standard error.

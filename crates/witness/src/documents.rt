@@ -4,14 +4,16 @@ ghost use Rattle.std.specs.Prelude.{◌≡◌, IfOk, IfSome};
 ghost use Rattle.witness.specs.declared.program.Ended.TheVariants.{Exits};
 ghost use Rattle.witness.specs.Program.{IsWrittenOrRefused};
 
+use crate::command::Form;
 use crate::program::Ended;
 use json::{Scratch, Value};
 use std::alloc::Global;
 use std::io::{ErrorKind, Read, Write};
-use wit_command::Form;
 use wit_documents::{DocumentError, report_of, write_sarif};
+use wit_dot::{write_dot, write_pictures};
 use wit_page::write_page;
 use wit_stream::ReplayError;
+use wit_text::write_text;
 use wit_trace::{BAD_TRACE, NOTHING_REPORTED};
 
 /// Writes the JSON report on the input in that form, and says with which status to exit: 3 where the
@@ -68,6 +70,9 @@ fn write_form<W: Write>(
     let written = match form {
         Form::Html => write_page(alloc, findings, output),
         Form::Sarif => write_sarif(alloc, findings, output),
+        Form::Text => write_text(alloc, findings, output),
+        Form::Dot => write_dot(alloc, findings, output),
+        Form::Pictures => write_pictures(alloc, findings, output),
     };
     match written {
         Ok(()) => Ok(Ended::Exits(NOTHING_REPORTED)),

@@ -2,10 +2,12 @@
 //! demonstrates the verifier.
 #![tactic(auto)]
 
+mod command;
+mod command_line;
 mod complaints;
 mod demonstration;
 mod documents;
-mod orders;
+mod machines;
 mod program;
 mod progress;
 mod words;

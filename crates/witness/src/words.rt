@@ -3,7 +3,7 @@
 ghost use Rattle.std.specs.Prelude.{ℕ, ◌≡◌, List, Err, IfOk, MatchOption, take};
 ghost use Rattle.std.specs.declared.env.FillError.TheVariants.{NotPresent};
 ghost use Rattle.std.specs.Io.{WritesAtMost};
-ghost use Rattle.wit_command.specs.CommandLine.{bytes_of};
+ghost use Rattle.witness.specs.CommandLine.{bytes_of};
 ghost use Rattle.witness.specs.Words.{AreWords};
 
 use std::alloc::{AllocError, Global};

@@ -1,6 +1,6 @@
 use Rattle.std.proofs.Common.{rules, ℕ, ◌≡◌, ◌+◌, List, [], length, sym, ap, ◌∙◌, subst, arith}
 use Rattle.std.specs.Global.{Vec}
-use Rattle.wit_command.specs.CommandLine.{bytes_of}
+use Rattle.witness.specs.CommandLine.{bytes_of}
 use Rattle.witness.specs.Words.{StandFrom}
 use Rattle.witness.proofs.Standing.{counted, pushed}
 use Rattle.witness.proofs.words.words_of.Goals as goal

@@ -1,5 +1,5 @@
 use Rattle.std.proofs.Common.{◌≡◌, ◌+◌, length}
-use Rattle.wit_command.specs.CommandLine.{bytes_of}
+use Rattle.witness.specs.CommandLine.{bytes_of}
 use Rattle.witness.specs.Words.{StandFrom}
 use Rattle.witness.proofs.words.words_of.Given as goal
 
