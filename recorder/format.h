@@ -84,8 +84,8 @@ enum { ASKED_AT = 6, ASKED_NOT = '0', ASKED_NOW = '1', ASKED_ALWAYS = '3' };
  */
 #define PAIR_TELLINGS 8
 #define WORD_PAIR "pair"
-/* Its fields, from 0 on: where the words of its two locks begin, and which of these are a lock's serial number and its type. */
-enum { PAIR_HELD = 6, PAIR_ASKED = 10, PAIR_SERIAL = 1, PAIR_TYPE = 2 };
+/* Its fields, from 0 on: where the words of its two locks begin, and which of these are a lock's serial number, its type and its mode. */
+enum { PAIR_HELD = 6, PAIR_ASKED = 10, PAIR_SERIAL = 1, PAIR_TYPE = 2, PAIR_MODE = 3 };
 /*
  * What its thread got and let go since it had nothing (errand.h), of a pair that has the last letter: each lock that it got by
  * its mode, with the second letter where it was tried, and each that it let go by the word. Or that not all of it is known.

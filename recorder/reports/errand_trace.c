@@ -169,8 +169,6 @@ void errand_trace_finds(struct errand_trace *trace, const struct single *single)
         const struct single_pair *pair = &single->pair[i];
         find_lock(sorted, trace->locks, &pair->held);
         find_lock(sorted, trace->locks, &pair->asked);
-        for (size_t beside = 0; beside < pair->besides; beside++)
-            find_lock(sorted, trace->locks, &pair->beside[beside]);
     }
     free(sorted);
 }

@@ -14,7 +14,6 @@
 #include <stdint.h>
 #include <stdio.h>
 
-#include "facts.h"
 #include "map.h"
 #include "single.h"
 

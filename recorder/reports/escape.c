@@ -1,7 +1,11 @@
 #include "escape.h"
 
 #include <stdbool.h>
+#include <stdint.h>
 #include <string.h>
+
+/* What stands for bytes that aren't UTF-8. */
+enum { REPLACEMENT = 0xfffd };
 
 /* How many bytes a character has that begins with this one, and what that one gives to it; 0 where none begins so. */
 static size_t length_by_first(unsigned char byte, uint32_t *code)
@@ -25,7 +29,11 @@ static size_t length_by_first(unsigned char byte, uint32_t *code)
     return 0;
 }
 
-uint32_t first_character(const char *text, size_t length, size_t *bytes)
+/*
+ * The first character of a text that isn't empty, and how many bytes it has. A byte that begins no character of UTF-8 is
+ * one of its own: REPLACEMENT.
+ */
+static uint32_t first_character(const char *text, size_t length, size_t *bytes)
 {
     uint32_t code = 0;
     size_t needs = length_by_first((unsigned char)text[0], &code);

@@ -4,7 +4,7 @@
 #include <string.h>
 
 #include "allocation.h"
-#include "json_read.h"
+#include "grades.h"
 
 /* So many lines are read before what they left is given back. */
 enum { LINES_TOGETHER = 256 };
@@ -14,13 +14,6 @@ struct reading {
     struct state *state;
     bool is_over; /* what seats hold was told to its end */
 };
-
-/* The text of that name; an empty one where there is none. */
-static const char *words_of(const struct value *object, const char *name)
-{
-    const char *text = text_of(object, name);
-    return text ? text : "";
-}
 
 /* The type of that name as it is told. */
 static const char *type_of(const struct reading *reading, const struct value *object, const char *name)
@@ -79,6 +72,7 @@ static void read_report(struct reading *reading, const struct value *finding)
         return;
     }
     struct report *report = add_head(reading, finding, kind);
+    report->told_at = number_of(finding, "line");
     read_lock(reading, finding, "third");
     read_lock(reading, finding, "held");
     read_lock(reading, finding, "asked");
@@ -87,8 +81,16 @@ static void read_report(struct reading *reading, const struct value *finding)
         report_names_ignore_line(report, reading->reports->notes);
 }
 
+static void read_grade(struct reading *reading, const struct value *finding)
+{
+    grade_read(reading->reports, finding);
+}
+
+/* After a moment grades alone are asked for: a line that isn't known as one that asks is none of the recording. */
 static void read_bad(struct reading *reading, const struct value *finding)
 {
+    if (reading->is_over)
+        return;
     char *words = say_text("a line that can't be: %s", words_of(finding, "why"));
     reports_add(reading->reports, REPORT_OTHER, words);
     reading->state->bads++;
@@ -168,6 +170,7 @@ static const struct {
     {"circle", read_circle},
     {"clean", read_clean},
     {"bad", read_bad},
+    {"grade", read_grade},
 };
 
 static void read_line(struct reading *reading, const struct value *finding)
@@ -187,7 +190,7 @@ static bool is_passed(const struct state *state, const char *line)
 
 void finding_lines_read(struct reports *reports, struct state *state, const char *told, size_t length)
 {
-    struct reading reading = {reports, state, false};
+    struct reading reading = {reports, state, state->is_whole};
     struct texts *texts = texts_new();
     const char *end = told + length, *after;
     for (size_t lines = 1; told < end && (after = memchr(told, '\n', (size_t)(end - told))) != NULL; told = after + 1) {

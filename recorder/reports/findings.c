@@ -18,7 +18,7 @@ struct found *findings_add(struct findings *findings, const char *program, long 
 void findings_tell(struct findings *findings, long process, const char *line)
 {
     static const char head[] = "record: ";
-    line += strncmp(line, head, sizeof head - 1) == 0 ? sizeof head - 1 : strspn(line, " ");
+    line += strncmp(line, head, sizeof head - 1) == 0 ? sizeof head - 1 : 0;
     ADD(findings->told, findings->tolds, findings->told_room) =
         process ? say_text("process %ld: %s", process, line) : copy(line);
     findings->summary = findings->told[findings->tolds - 1];

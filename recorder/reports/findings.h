@@ -22,7 +22,8 @@ struct found {
     struct reports reports;
     struct reports ignored; /* what isn't told: by the user's ignore file, or as right in a library */
     struct order_list orders;
-    char *picture; /* of these, as SVG; NULL where none is drawn */
+    bool has_orders; /* they are all known: its recording was judged to its end */
+    char *picture;   /* of these, as SVG; NULL where none is drawn */
 };
 
 /* A report, told once for all processes that have it. */

@@ -8,16 +8,22 @@
 #include "document.h"
 #include "error_words.h"
 #include "grades.h"
+#include "graph.h"
 #include "allocation.h"
 #include "output_files.h"
 #include "pictures.h"
 #include "steering_plan.h"
 #include "witness.h"
 
+/* Whether a file is made of the JSON report. */
+static bool is_report_wanted(const struct settings *settings)
+{
+    return is_asked(settings->html) || is_asked(settings->sarif) || is_asked(settings->json) || is_asked(settings->graph);
+}
+
 bool findings_are_wanted(const struct settings *settings)
 {
-    return is_asked(settings->html) || is_asked(settings->sarif) || is_asked(settings->json)
-        || confirm_is_wanted(settings);
+    return is_report_wanted(settings) || confirm_is_wanted(settings);
 }
 
 /* Lines that are told, each by itself. */
@@ -73,6 +79,7 @@ void findings_take(struct process *process)
         return;
     struct found *found = findings_add(&run->findings, process->name, process->recording->process);
     orders_read(process, &found->orders);
+    found->has_orders = process->state.is_whole;
     if (confirm_is_wanted(&run->settings))
         plan_finds_first_locks(process);
     found->notes = process->notes;
@@ -120,33 +127,38 @@ static void write_document(struct run *run, const char *path, const char *form, 
         say(&run->output, "%s isn't whole: %s %s ended with the status %d", path, witness, form, status);
 }
 
-/* The pictures stand in the page alone. */
-static void write_page(struct run *run)
+static void draw_graphs(struct run *run, const char *report, size_t length)
 {
-    size_t length = 0;
-    if (!is_asked(run->settings.html))
-        return;
-    pictures_draw(&run->findings);
-    char *report = document_report(&run->findings, &length);
-    write_document(run, run->settings.html, "html", report, length);
-    free(report);
+    const struct settings *settings = &run->settings;
+    char *failed = is_asked(settings->graph)
+        ? graphs_draw(settings->graph, settings->witness, &run->findings, report, length)
+        : NULL;
+    if (failed)
+        say(&run->output, "%s: the orders aren't drawn", failed);
+    free(failed);
 }
 
 void findings_finish(struct run *run)
 {
+    const struct settings *settings = &run->settings;
     size_t length = 0;
-    if (!findings_are_wanted(&run->settings))
+    if (!findings_are_wanted(settings))
         return;
     run->output.hear = NULL;
     run->findings.ended = time(NULL);
     run->findings.has_failed = run->unknown;
     findings_gather(&run->findings);
-    if (is_asked(run->settings.json) || is_asked(run->settings.sarif)) {
-        char *report = document_report(&run->findings, &length);
-        write_document(run, run->settings.sarif, "sarif", report, length);
-        write_report(run, report, length);
+    char *report = is_report_wanted(settings) ? document_report(&run->findings, &length) : NULL;
+    write_document(run, settings->sarif, "sarif", report, length);
+    write_report(run, report, length);
+    draw_graphs(run, report, length);
+    if (is_asked(settings->html)) {
+        /* The pictures stand in the page alone. */
+        pictures_draw(&run->findings, settings->witness, report, length);
         free(report);
+        report = document_report(&run->findings, &length);
+        write_document(run, settings->html, "html", report, length);
     }
-    write_page(run);
+    free(report);
     findings_end(&run->findings);
 }

@@ -1,78 +1,69 @@
 #include "graph.h"
 
-#include <signal.h>
-#include <spawn.h>
+#include <stdio.h>
 #include <stdlib.h>
 #include <string.h>
-#include <sys/wait.h>
-#include <unistd.h>
 
-#include "dot_text.h"
-#include "files.h"
 #include "allocation.h"
+#include "document.h"
+#include "files.h"
 #include "output_files.h"
-#include "show_run.h"
 #include "usage.h"
 
-extern char **environ;
+/* What stands from the last dot on. */
+static const char *ending_of(const char *file)
+{
+    size_t length = strlen(file);
+    return length < 4 ? "" : file + length - 4;
+}
 
 void graph_check(const char *file)
 {
-    size_t length = strlen(file);
-    const char *ending = length < 4 ? "" : file + length - 4;
+    const char *ending = ending_of(file);
     if (strcmp(ending, ".dot") != 0 && strcmp(ending, ".svg") != 0)
         refuse("--graph takes FILE.svg or FILE.dot, not %s", file);
     if (strcmp(ending, ".svg") == 0 && !file_is_command("dot"))
         refuse("--graph %s needs dot (Graphviz), which isn't there; FILE.dot doesn't", file);
 }
 
-/* The text for dot. False where it can't be written. */
-static bool write_dot(const struct process *process, const char *path)
+/* The text itself, or what dot makes of it. */
+static bool draw(const char *file, const char *text, size_t length)
 {
-    struct order_list orders = {0};
-    FILE *to = written_file(path);
-    if (!to)
-        return false;
-    orders_read(process, &orders);
-    dot_write(to, &orders, false);
-    orders_end(&orders);
-    bool is_good = !ferror(to);
-    return fclose(to) == 0 && is_good;
+    FILE *to = written_file(file);
+    bool is_text = strcmp(ending_of(file), ".dot") == 0, is_drawn = to != NULL;
+    if (to && is_text)
+        fwrite(text, 1, length, to);
+    else if (to)
+        is_drawn = document_write(to, "dot", "-Tsvg", text, length) == 0;
+    is_drawn = is_drawn && !ferror(to);
+    return to && fclose(to) == 0 && is_drawn;
 }
 
-/* Runs dot on the text, and what it writes goes to the file. */
-static bool run_dot(const char *text, const char *file)
+/* That of the process with this number among them, from 0 on. Its name where that failed, as a text of one's own. */
+static char *draw_one(const char *file, size_t number, const char *text, size_t length)
 {
-    char *words[] = {"dot", "-Tsvg", (char *)text, NULL};
-    posix_spawn_file_actions_t files;
-    pid_t process;
-    int status = 1, to = written_open(file, WRITTEN_ANEW);
-    if (to < 0)
-        return false;
-    posix_spawn_file_actions_init(&files);
-    posix_spawn_file_actions_adddup2(&files, to, STDOUT_FILENO);
-    bool is_begun = posix_spawnp(&process, words[0], &files, NULL, words, environ) == 0;
-    posix_spawn_file_actions_destroy(&files);
-    close(to);
-    return is_begun && waitpid(process, &status, 0) == process && status == 0;
+    const char *ending = ending_of(file);
+    char *name = number > 0 ? say_text("%.*s.%zu%s", (int)(ending - file), file, number, ending) : copy(file);
+    if (!draw(name, text, length))
+        return name;
+    free(name);
+    return NULL;
 }
 
-void draw(struct process *process)
+char *graphs_draw(const char *file, const char *witness, const struct findings *findings, const char *report,
+    size_t length)
 {
-    struct run *run = process->run;
-    const char *graph = run->settings.graph;
-    if (!is_asked(graph) || !process->state.is_whole)
-        return;
-    const char *dot = strrchr(graph, '.');
-    char *file = copy(graph), *text = say_text("%s/dot", run->work);
-    if (run->shown > 0 && dot) {
-        free(file);
-        file = say_text("%.*s.%zu%s", (int)(dot - graph), graph, run->shown, dot);
+    static const char end[] = "\n}\n";
+    char *text = document_text(witness, "dot", report, length), *failed = text ? NULL : copy(file);
+    const char *from = text, *after;
+    for (size_t i = 0; from && i < findings->count && (after = strstr(from, end)) != NULL; i++, from = after) {
+        after += strlen(end);
+        char *name = findings->found[i].has_orders ? draw_one(file, i, from, (size_t)(after - from)) : NULL;
+        if (failed)
+            free(name);
+        else
+            failed = name;
     }
-    bool is_text = dot && strcmp(dot, ".dot") == 0;
-    bool is_drawn = is_text ? write_dot(process, file) : write_dot(process, text) && run_dot(text, file);
-    if (!is_drawn)
-        say(&run->output, "%s: the orders aren't drawn", file);
-    free(file);
     free(text);
+    return failed;
 }

@@ -1,16 +1,23 @@
 /*
- * The orders of a trace as a picture: types, orders with the place where each was first asked for, and in red the
- * reversals, dashed, with the orders that they break.
+ * The orders of processes as pictures, which dot (Graphviz) draws of what `witness dot` says: types, orders with the place
+ * where each was first asked for, and in red the reversals, dashed, with the orders that they break.
  */
 #ifndef RECORD_GRAPH_H
 #define RECORD_GRAPH_H
 
-#include "show_run.h"
+#include <stddef.h>
+
+#include "findings.h"
 
 /* Refuses a name of a file in which no picture can be drawn here. */
 void graph_check(const char *file);
 
-/* Draws it where that was asked for: to FILE.svg, of further processes to FILE.1.svg and so on. */
-void draw(struct process *process);
+/*
+ * Draws those of the findings, whose JSON report this is, to FILE.svg, of further processes to FILE.1.svg and so on; or writes the
+ * text for dot, FILE.dot. Where a process's orders aren't known there is no file. The first file in which that failed, as a text
+ * of one's own; NULL where none did.
+ */
+char *graphs_draw(const char *file, const char *witness, const struct findings *findings, const char *report,
+    size_t length);
 
 #endif

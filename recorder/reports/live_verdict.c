@@ -3,30 +3,25 @@
 #include <stdlib.h>
 #include <string.h>
 
-#include "allocation.h"
-
 enum { BUFFER_BYTES = 1 << 16 };
 
-static const char look[] = "look\n", order[] = "{\"finding\":\"order\"";
-
-/* It tells to a text that begins anew. */
-static bool hears(struct live_verdict *going)
-{
-    if (going->to)
-        fclose(going->to);
-    free(going->fresh);
-    going->fresh = NULL;
-    going->fresh_length = 0;
-    going->to = open_memstream(&going->fresh, &going->fresh_length);
-    going->verdict.told = going->to;
-    return going->to != NULL;
-}
+static const char order[] = "{\"finding\":\"order\"";
 
 static ssize_t feed(void *cookie, const char *bytes, size_t length)
 {
     struct live_verdict *going = cookie;
-    verdict_feed(&going->verdict, bytes, length);
+    verdict_feed(&going->verifier.verdict, bytes, length);
     return (ssize_t)length;
+}
+
+/* One that took too long for a grade was ended: another one is begun, which isn't asked for any. */
+static bool was_cut_off(struct live_verdict *going)
+{
+    if (!going->verifier.is_begun || going->has_ended || verifier_goes_on(&going->verifier))
+        return false;
+    going_leaves(going);
+    going->is_slow = true;
+    return true;
 }
 
 enum resolved going_reads(struct live_verdict *going, struct resolver *resolver, const char *witness,
@@ -36,13 +31,14 @@ enum resolved going_reads(struct live_verdict *going, struct resolver *resolver,
     bool has_more = !going->resolving || stream->before + stream->length > resolving_read(going->resolving);
     if (going->has_ended && !has_more)
         return RESOLVED;
+    if (was_cut_off(going))
+        return RESOLVED_ANEW;
     if (!going->resolving)
         going->resolving = resolving_new(resolver, stream);
-    FILE *to = !going->has_ended && hears(going) ? fopencookie(going, "w", (cookie_io_functions_t){.write = feed}) : NULL;
-    if (to && !going->is_begun)
-        verdict_begin(&going->verdict, witness, "findings", going->to);
+    if (!going->has_ended)
+        verifier_hears(&going->verifier, witness);
+    FILE *to = !going->has_ended ? fopencookie(going, "w", (cookie_io_functions_t){.write = feed}) : NULL;
     if (to) {
-        going->is_begun = true;
         setvbuf(to, NULL, _IOFBF, BUFFER_BYTES);
         resolved = resolving_goes_on(going->resolving, stream, to);
         fclose(to);
@@ -53,7 +49,7 @@ enum resolved going_reads(struct live_verdict *going, struct resolver *resolver,
 }
 
 /* Where the line is kept; NULL where it tells of a moment, or isn't wanted. */
-static struct told_lines *place_of(struct live_verdict *going, const char *line, bool wants_orders)
+static struct text *place_of(struct live_verdict *going, const char *line, bool wants_orders)
 {
     static const char *const lasting[] = {"{\"finding\":\"report\"", "{\"finding\":\"bad\""};
     for (size_t i = 0; i < sizeof lasting / sizeof *lasting; i++)
@@ -62,77 +58,60 @@ static struct told_lines *place_of(struct live_verdict *going, const char *line,
     return wants_orders && strncmp(line, order, sizeof order - 1) == 0 ? &going->orders : NULL;
 }
 
-static void add(struct told_lines *to, const char *bytes, size_t length)
+/* Keeps of what was told last, up to so far, what is so from then on. */
+static void keep(struct live_verdict *going, size_t length, bool wants_orders)
 {
-    while (to->length + length > to->room) {
-        to->room = to->room ? 2 * to->room : 1 << 14;
-        to->bytes = grow(to->bytes, to->room, 1);
-    }
-    if (length > 0)
-        memcpy(to->bytes + to->length, bytes, length);
-    to->length += length;
-}
-
-/* Keeps of what was told last what is so from then on. */
-static void keep(struct live_verdict *going, bool wants_orders)
-{
-    const char *at = going->fresh, *end = at + going->fresh_length, *after;
+    const char *at = going->verifier.told, *end = at + length, *after;
     for (; at < end && (after = memchr(at, '\n', (size_t)(end - at))) != NULL; at = after + 1) {
-        struct told_lines *to = place_of(going, at, wants_orders);
+        struct text *to = place_of(going, at, wants_orders);
         if (to)
-            add(to, at, (size_t)(after + 1 - at));
+            text_add(to, at, (size_t)(after + 1 - at));
     }
 }
 
 /* What it told of the lines before, and since the last moment. */
-static char *told_by(struct live_verdict *going, size_t *length)
+static char *told_by(const struct live_verdict *going, size_t *length)
 {
-    struct told_lines told = {0};
-    fflush(going->to);
-    add(&told, going->kept.bytes, going->kept.length);
+    struct text told = {0};
+    text_add(&told, going->kept.bytes, going->kept.length);
     if (going->has_ended)
-        add(&told, going->orders.bytes, going->orders.length);
-    add(&told, going->fresh, going->fresh_length);
+        text_add(&told, going->orders.bytes, going->orders.length);
+    text_add(&told, going->verifier.told, going->verifier.length);
     *length = told.length;
     return told.bytes ? told.bytes : copy("");
 }
 
-char *going_looks(struct live_verdict *going, bool wants_orders, size_t *length)
+char *going_looks(struct live_verdict *going, struct grades_wanted wanted, bool wants_orders, size_t *length)
 {
-    if (!going->is_begun)
+    struct verifier *verifier = &going->verifier;
+    if (!verifier_looks(verifier))
         return NULL;
-    if (going->has_ended)
-        return told_by(going, length);
-    verdict_feed(&going->verdict, look, sizeof look - 1);
-    going->verdict.had_little = false;
-    do {
-        if (!verdict_hears(&going->verdict))
-            return NULL;
-        fflush(going->to);
-    } while (!verdict_told_moment(going->fresh, going->fresh_length));
+    size_t moment = verifier->length;
+    if (!going->is_slow)
+        verifier_grades(verifier, &wanted, verifier->told, moment);
     char *told = told_by(going, length);
-    keep(going, wants_orders);
+    keep(going, moment, wants_orders);
     return told;
 }
 
-char *going_ends(struct live_verdict *going, size_t *length)
+char *going_ends(struct live_verdict *going, struct grades_wanted wanted, size_t *length)
 {
-    if (!going->is_begun)
-        return NULL;
-    if (!going->has_ended)
-        going->status = verdict_end(&going->verdict);
+    if (!going->has_ended) {
+        if (!verifier_looks(&going->verifier))
+            return NULL;
+        char *told = told_by(going, length);
+        verifier_grades(&going->verifier, &wanted, told, *length);
+        verdict_leaves(&going->verifier.verdict);
+        free(told);
+    }
     going->has_ended = true;
     return told_by(going, length);
 }
 
 void going_leaves(struct live_verdict *going)
 {
-    if (going->is_begun && !going->has_ended)
-        verdict_end(&going->verdict);
-    if (going->to)
-        fclose(going->to);
+    verifier_leaves(&going->verifier);
     resolving_end(going->resolving);
-    free(going->fresh);
     free(going->kept.bytes);
     free(going->orders.bytes);
     *going = (struct live_verdict){0};

@@ -6,25 +6,16 @@
 #define RECORD_LIVE_VERDICT_H
 
 #include "resolve.h"
-#include "verdict.h"
-
-/* Lines that were told. */
-struct told_lines {
-    char *bytes;
-    size_t length, room;
-};
+#include "verifier.h"
 
 /* A new struct is all zeroes. */
 struct live_verdict {
     struct resolving *resolving; /* NULL where nothing was read */
-    struct verdict verdict;
-    bool is_begun, has_ended;
-    FILE *to;
-    char *fresh; /* what it tells since the last look */
-    size_t fresh_length;
+    struct verifier verifier;    /* it tells what it knows since the last look */
+    bool has_ended;
+    bool is_slow; /* grades took too long: they are asked for in the end alone */
     /* What it told before of the lines themselves, and not of a moment: reports and bad lines; orders. */
-    struct told_lines kept, orders;
-    int status; /* once it has ended, as a shell says it */
+    struct text kept, orders;
 };
 
 /*
@@ -35,13 +26,13 @@ enum resolved going_reads(struct live_verdict *going, struct resolver *resolver,
     const struct stream *stream);
 
 /*
- * What the verifier knows by now, with the reports and bad lines that it told before: a text of one's own; NULL where it can't
- * be asked. Orders are kept for its end where they are wanted.
+ * What the verifier knows by now, with the reports and bad lines that it told before, and the grades of the reports that are new:
+ * a text of one's own; NULL where it can't be asked. Orders are kept for its end where they are wanted.
  */
-char *going_looks(struct live_verdict *going, bool wants_orders, size_t *length);
+char *going_looks(struct live_verdict *going, struct grades_wanted wanted, bool wants_orders, size_t *length);
 
-/* As going_looks, with all orders that were kept, and it ends: asked again it has told the same. */
-char *going_ends(struct live_verdict *going, size_t *length);
+/* As going_looks, with all orders that were kept and all grades, and it ends: asked again it has told the same. */
+char *going_ends(struct live_verdict *going, struct grades_wanted wanted, size_t *length);
 
 /* Nothing more is wanted of it. */
 void going_leaves(struct live_verdict *going);

@@ -6,7 +6,10 @@
 
 #include "findings.h"
 
-/* Draws them, once they are gathered. Where dot isn't there, or fails, there is none. */
-void pictures_draw(struct findings *findings);
+/*
+ * Draws them, once they are gathered, of their JSON report, whose text is NULL where it isn't there. Where that or dot isn't
+ * there, or one of both programs fails, there is none.
+ */
+void pictures_draw(struct findings *findings, const char *witness, const char *report, size_t length);
 
 #endif

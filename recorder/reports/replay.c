@@ -1,6 +1,7 @@
 #include "replay.h"
 
 #include <stdlib.h>
+#include <string.h>
 
 #include "allocation.h"
 #include "finding_lines.h"
@@ -10,19 +11,12 @@
 #include "output_files.h"
 #include "replay_answers.h"
 
-enum { BUFFER_BYTES = 1 << 16, BAD_LINES = 3 };
+enum { BUFFER_BYTES = 1 << 16, BAD_LINES = 3, PATIENCE = 30000, BRIEF_PATIENCE = 2000 };
 
 static ssize_t feed(void *cookie, const char *bytes, size_t length)
 {
     replaying_takes(cookie, bytes, length);
     return (ssize_t)length;
-}
-
-/* In the end. */
-static bool wants_orders(const struct process *process)
-{
-    const struct settings *settings = &process->run->settings;
-    return is_asked(settings->graph) || findings_are_wanted(settings);
 }
 
 /* Why nothing is told of the report. */
@@ -50,23 +44,39 @@ static void part_ignored(struct process *process)
     }
 }
 
+/* A trial, or what stands for one. It wants all lines before it tells anything. */
+static bool is_trial(const struct settings *settings, const char *witness)
+{
+    return witness != settings->grader;
+}
+
+/* The grades that are asked for, in the end or while others wait. */
+static struct grades_wanted grades_of(const struct process *process, const struct notes *notes, bool in_the_end)
+{
+    return (struct grades_wanted){notes, findings_are_wanted(&process->run->settings),
+        in_the_end ? PATIENCE : BRIEF_PATIENCE};
+}
+
 /* Has all of the stream judged at once. What the verifier told, a text of one's own. */
-static char *ask(struct process *process, size_t *length)
+static char *ask(struct process *process, const char *witness, size_t *length)
 {
     struct run *run = process->run;
     struct replaying replaying;
     struct resolving *resolving = resolving_new(run->resolver, &process->stream);
-    replaying_begin(&replaying, &run->answers, run->settings.witness, run->recordings > 1);
+    struct grades_wanted wanted = grades_of(process, resolving_notes(resolving), !process->is_followed);
+    if (is_trial(&run->settings, witness))
+        wanted.patience = 0;
+    replaying_begin(&replaying, &run->answers, witness, run->recordings > 1);
     FILE *to = fopencookie(&replaying, "w", (cookie_io_functions_t){.write = feed});
     if (to) {
         setvbuf(to, NULL, _IOFBF, BUFFER_BYTES);
         process->resolved = resolving_goes_on(resolving, &process->stream, to) == RESOLVED;
         process->resolved &= fclose(to) == 0;
     }
+    process->status = replaying_end(&replaying, &wanted);
     process->notes = resolving_leaves_notes(resolving);
-    process->status = replaying_end(&replaying);
-    *length = replaying.told_length;
-    return replaying.told;
+    *length = replaying.told.length;
+    return replaying.told.bytes;
 }
 
 /* The stream with all of its lines, where it has the last ones alone. */
@@ -110,27 +120,46 @@ static char *ask_going(struct process *process, struct live_verdict *going, size
 {
     bool ends = !process->is_followed || process->is_last_look;
     char *told = NULL;
-    if (reads_on(process, going))
-        told = ends ? going_ends(going, length) : going_looks(going, wants_orders(process), length);
-    process->status = ends ? going->status : 0;
-    if (told && process->status <= BAD_LINES) {
+    if (reads_on(process, going)) {
+        bool wants_orders = findings_are_wanted(&process->run->settings);
+        struct grades_wanted wanted = grades_of(process, resolving_notes(going->resolving), ends);
+        told = ends ? going_ends(going, wanted, length) : going_looks(going, wanted, wants_orders, length);
+    }
+    if (told) {
         take_notes(process, going);
         return told;
     }
-    free(told);
     going_leaves(going);
-    return has_whole_stream(process) ? ask(process, length) : NULL;
+    return has_whole_stream(process) ? ask(process, process->run->settings.witness, length) : NULL;
+}
+
+/* Beside a trial, what was built of earlier sources is asked for the grades, where that is there. */
+static void ask_grader(struct process *process)
+{
+    static const char grade[] = "{\"finding\":\"grade\"";
+    const struct settings *settings = &process->run->settings;
+    struct process again = *process;
+    size_t length = 0;
+    if (!settings->grader || !is_trial(settings, settings->witness))
+        return;
+    char *told = ask(&again, settings->grader, &length),
+         *from = told ? memmem(told, length, grade, sizeof grade - 1) : NULL;
+    if (from)
+        finding_lines_read(&process->reports, &process->state, from, length - (size_t)(from - told));
+    notes_end(&again.notes);
+    free(told);
 }
 
 void replay(struct process *process)
 {
     size_t length = 0;
     struct live_verdict *going = follow_verdict(process->run, process);
-    char *told = going ? ask_going(process, going, &length) : ask(process, &length);
+    char *told = going ? ask_going(process, going, &length) : ask(process, process->run->settings.witness, &length);
     process->reports.notes = &process->notes;
-    process->state.lacks_orders = process->is_followed || !wants_orders(process);
+    process->state.lacks_orders = process->is_followed || !findings_are_wanted(&process->run->settings);
     if (told)
         finding_lines_read(&process->reports, &process->state, told, length);
+    ask_grader(process);
     free(told);
     if (process->state.bads > 0)
         process->status = BAD_LINES;

@@ -1,21 +1,19 @@
 /*
  * What `witness findings` tells of a process's lines. In a run of many processes most are alike: it isn't asked again about
- * lines that it was asked about before. About others one program is asked, as long as there are few lines of each.
+ * lines that it was asked about before. About others one program is asked, which judges one process after another, as long as
+ * there are few lines of each.
  */
 #ifndef RECORD_REPLAY_ANSWERS_H
 #define RECORD_REPLAY_ANSWERS_H
 
 #include <stdbool.h>
 #include <stddef.h>
-#include <stdio.h>
 
-#include "batch_verdict.h"
-#include "verdict.h"
+#include "verifier.h"
 
 /* What it told of some lines. */
 struct answer {
-    char *lines, *told;
-    size_t length, told_length;
+    struct text lines, told;
     int status;
 };
 
@@ -23,8 +21,10 @@ struct answer {
 struct answers {
     struct answer *answer;
     size_t count, room;
-    size_t bytes; /* how long all are together */
-    struct batch_verdict shared;
+    size_t bytes;           /* how long all are together */
+    struct verifier shared; /* the one for many processes, which had so many */
+    unsigned processes;
+    bool is_one_by_one; /* none can be run, or judge one after another */
 };
 
 void answers_end(struct answers *answers);
@@ -34,20 +34,16 @@ struct replaying {
     struct answers *answers;
     const char *witness;
     bool shares; /* the verifier that others are asked about is asked */
-    char *lines;
-    size_t length, room;
-    struct verdict verdict;
-    bool is_begun;
-    FILE *to;
-    char *told; /* at its end: the caller's */
-    size_t told_length;
+    struct text lines;
+    struct verifier own;
+    struct text told; /* at its end: the caller's */
 };
 
-/* Of one process alone the verifier is asked by itself: then it may as well answer when it has all lines. */
+/* Of one process alone the verifier is asked by itself. */
 void replaying_begin(struct replaying *replaying, struct answers *answers, const char *witness, bool shares);
 void replaying_takes(struct replaying *replaying, const char *bytes, size_t length);
 
-/* All have come. The verifier's status, as a shell says it; where it goes on for others, 0. */
-int replaying_end(struct replaying *replaying);
+/* All have come. 0 where the verifier has told all; else its status, as a shell says it. */
+int replaying_end(struct replaying *replaying, const struct grades_wanted *wanted);
 
 #endif

@@ -226,6 +226,7 @@ void reports_end(struct reports *reports)
             free_line(&report->line[j]);
         free(report->line);
         free(report->ignore_line);
+        free(report->fact);
         schedule_end(report->schedule);
     }
     free(reports->report);

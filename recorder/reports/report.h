@@ -51,12 +51,15 @@ struct report {
     } kind;
     struct report_line *line; /* the first says what it is */
     size_t lines, room;
+    long long told_at;  /* the verifier told it at that line */
     size_t first, last; /* the numbers of the lines of the two locks whose types are at odds; 0 where there is none */
     bool is_over;       /* the thread that waited for itself went on */
     char *ignore_line;  /* the line of an ignore file that would have it ignored; NULL where none would */
     enum ignored_cause ignored; /* why it isn't told */
     struct alarm alarm;         /* how much it is to be feared, once the reports are graded (grades.h) */
-    struct schedule *schedule;  /* how its threads come to hang; NULL where no single locks were taken both ways */
+    struct fact *fact; /* of the circle of single locks that its grade speaks of, each of the thread before the next */
+    size_t facts;
+    struct schedule *schedule; /* how its threads come to hang; NULL where no single locks were taken both ways */
 };
 
 /* The texts and numbers point into the notes. */

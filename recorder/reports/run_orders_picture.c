@@ -5,14 +5,12 @@
 #include <string.h>
 
 #include "document.h"
-#include "dot_text.h"
 #include "findings.h"
 #include "graph.h"
 #include "allocation.h"
 #include "output_files.h"
 #include "pictures.h"
 #include "prepare.h"
-#include "verdict.h"
 #include "witness.h"
 
 void drawing_check(const struct drawing *drawing)
@@ -59,76 +57,53 @@ static void add_orders(struct order_list *orders, const struct learnt *learnt, c
     }
 }
 
-/* What the program makes of them is the page. */
-static bool write_document(const char *path, const char *witness, struct findings *findings)
-{
-    size_t length = 0;
-    pictures_draw(findings);
-    char *report = document_report(findings, &length);
-    FILE *to = report ? written_file(path) : NULL;
-    bool is_written = to && document_write(to, witness, "html", report, length) == 0 && !ferror(to);
-    free(report);
-    return to && fclose(to) == 0 && is_written;
-}
-
-static bool write_page(const struct drawing *drawing, const struct learnt *learnt, struct judgement *judgement,
+/* The report that both are made of. The judgement's reports are its own from here on. */
+static void begin_report(struct findings *findings, const struct learnt *learnt, struct judgement *judgement,
     const char *summary)
 {
-    struct findings findings = {.command = "orders",
+    *findings = (struct findings){.command = "orders",
         .version = WITNESS_VERSION,
         .program = "all files together",
         .ended = time(NULL)};
-    struct found *found = findings_add(&findings, findings.program, 0);
+    struct found *found = findings_add(findings, findings->program, 0);
     add_orders(&found->orders, learnt, &judgement->reports);
+    found->has_orders = true;
     found->notes = judgement->notes;
     found->reports = judgement->reports;
     judgement->notes = (struct notes){0};
     judgement->reports = (struct reports){0};
-    findings_tell(&findings, 0, summary);
-    findings_gather(&findings);
-    bool is_written = write_document(drawing->html, drawing->witness, &findings);
-    findings_end(&findings);
-    return is_written;
+    findings_tell(findings, 0, summary);
+    findings_gather(findings);
 }
 
-/* The text for dot, or what dot makes of it. */
-static bool write_graph(const char *path, const struct learnt *learnt, const struct judgement *judgement)
+static bool write_page(const char *path, const char *witness, struct findings *findings, const char *report, size_t length)
 {
-    struct order_list orders = {0};
-    struct verdict dot;
-    char *text = NULL;
-    size_t length = 0;
-    FILE *to = written_file(path), *lines = open_memstream(&text, &length);
-    if (!to || !lines)
-        return false;
-    add_orders(&orders, learnt, &judgement->reports);
-    dot_write(lines, &orders, false);
-    orders_end(&orders);
-    fclose(lines);
-    bool is_drawn = true;
-    if (strcmp(strrchr(path, '.'), ".dot") == 0) {
-        fwrite(text, 1, length, to);
-    } else {
-        verdict_begin(&dot, "dot", "-Tsvg", to);
-        verdict_feed(&dot, text, length);
-        is_drawn = verdict_end(&dot) == 0;
-    }
-    free(text);
-    is_drawn &= !ferror(to);
-    return fclose(to) == 0 && is_drawn;
+    pictures_draw(findings, witness, report, length);
+    char *drawn = document_report(findings, &length);
+    FILE *to = drawn ? written_file(path) : NULL;
+    bool is_written = to && document_write(to, witness, "html", drawn, length) == 0 && !ferror(to);
+    free(drawn);
+    return to && fclose(to) == 0 && is_written;
 }
 
 bool draw_learnt(const struct drawing *drawing, const struct learnt *learnt, struct judgement *judgement,
     const char *summary)
 {
-    bool is_good = true;
-    if (drawing->graph && !write_graph(drawing->graph, learnt, judgement)) {
-        fprintf(stderr, "orders: %s: the orders aren't drawn\n", drawing->graph);
-        is_good = false;
-    }
-    if (drawing->html && !write_page(drawing, learnt, judgement, summary)) {
+    struct findings findings;
+    size_t length = 0;
+    if (!drawing->graph && !drawing->html)
+        return true;
+    begin_report(&findings, learnt, judgement, summary);
+    char *report = document_report(&findings, &length);
+    char *failed = drawing->graph ? graphs_draw(drawing->graph, drawing->witness, &findings, report, length) : NULL;
+    bool is_page = !drawing->html || write_page(drawing->html, drawing->witness, &findings, report, length);
+    if (failed)
+        fprintf(stderr, "orders: %s: the orders aren't drawn\n", failed);
+    if (!is_page)
         fprintf(stderr, "orders: %s can't be written\n", drawing->html);
-        is_good = false;
-    }
+    bool is_good = !failed && is_page;
+    free(failed);
+    free(report);
+    findings_end(&findings);
     return is_good;
 }

@@ -17,7 +17,7 @@ struct drawing {
 /* Refuses what can't be written. */
 void drawing_check(const struct drawing *drawing);
 
-/* Writes them. Where one can't be written that is told, and the answer is false. The page takes the reports over. */
+/* Writes them. Where one can't be written that is told, and the answer is false. The reports are taken over. */
 bool draw_learnt(const struct drawing *drawing, const struct learnt *learnt, struct judgement *judgement,
     const char *summary);
 

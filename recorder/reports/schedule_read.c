@@ -54,7 +54,7 @@ static void end_schedule(struct reading *reading)
     schedule_of(reading, circle)->result = SCHEDULE_HANGS;
     for (size_t i = 0; i < reading->trace->seats; i++)
         if (reading->waits[i])
-            reading->circle[circle].used[seat[i].fact - reading->circle[circle].fact] = seat[i].telling;
+            reading->circle[circle].used[seat[i].fact - reading->circle[circle].report->fact] = seat[i].telling;
     schedule_rows(schedule_of(reading, circle), reading->trace, reading->notes, reading->act, reading->acts,
         reading->waits);
 }

@@ -20,7 +20,7 @@ struct schedule_row schedule_row_of(const struct errand_trace *trace, const stru
     uint32_t serial = is_request ? asked->serial : seat->step[step].serial;
     const struct single_step *had = errand_has(seat, serial, step);
     return (struct schedule_row){
-        .thread = fact_thread(&notes->single, seat->fact),
+        .thread = seat->fact->is_known ? seat->fact->thread : 0,
         .does = is_request          ? ROW_WAITS
             : seat->step[step].gets ? ROW_GETS
                                     : ROW_LETS_GO,

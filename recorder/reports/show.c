@@ -209,7 +209,7 @@ struct run *show_begins(const struct settings *settings, const char *work, const
     run->work = work;
     run->records = records;
     run->resolver = resolver_new(&run->settings);
-    run->answers.shared.is_of_no_use = settings->one_by_one;
+    run->answers.is_one_by_one = settings->one_by_one;
     return run;
 }
 

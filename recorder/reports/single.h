@@ -1,6 +1,7 @@
 /*
  * The pairs of single locks that a recorder's file has (recorder/runtime/single_pairs.c): which threads asked for which lock while
- * they held which other, and on which way they came there; and which thread was made or joined when.
+ * they held which other, and on which way they came there. What is told of them and of threads is for the verifier, which grades
+ * by it; here is what schedules are made of.
  */
 #ifndef RECORD_SINGLE_H
 #define RECORD_SINGLE_H
@@ -9,22 +10,15 @@
 #include <stddef.h>
 #include <stdint.h>
 
+#include "allocation.h"
+#include "line.h"
 #include "map.h"
-
-enum { BESIDES_MOST = 4 };
 
 /* A lock of a pair. Its serial number is no other lock's; its number in the trace may be one that another had before. */
 struct single_lock {
     uint32_t number, serial; /* the number is 0 where it has none */
-    uint32_t type;           /* by the file's numbers; 0 where there was no room for it */
+    uint32_t type; /* by the file's numbers, the first of those that are one; 0 where there was no room for it */
     bool shared;
-};
-
-/* A thread that made the pair, and how many threads had been made and joined when it first did so, and last told so. */
-struct single_deed {
-    long thread; /* as the kernel counts */
-    unsigned long first, last;
-    uint32_t place; /* where it first did so, by the file's number */
 };
 
 /* A lock that a thread got, or let go. */
@@ -52,23 +46,18 @@ struct single_telling {
 struct single_pair {
     struct single_lock held, asked;
     enum single_how { SINGLE_PLAINLY, SINGLE_FOR_A_TIME, SINGLE_REPEATEDLY, SINGLE_AS_A_WAIT_ENDS } how;
-    bool under;                              /* the held one was acquired while the other was held */
-    struct single_lock beside[BESIDES_MOST]; /* that were held each time besides; shared where one ever was */
-    size_t besides;
-    struct single_deed deed[2];
-    size_t deeds;
-    long further; /* a third thread that made it; there may be others, and when they did so isn't known. 0 for none */
-    size_t told;  /* its last telling, from 1 on */
+    bool under;      /* the held one was acquired while the other was held */
+    bool is_further; /* by more threads than two: of further ones there needn't be a telling */
+    size_t told;     /* its last telling, from 1 on */
 };
 
-struct single_life {
-    long thread, maker; /* 0 where that isn't known */
-    unsigned long made_at;
-};
-
-struct single_join {
-    long thread, by;
-    unsigned long at;
+/* What a thread of a circle did: it asked for the one lock of the pair while it held the other. */
+struct fact {
+    const struct single_pair *pair; /* NULL where the file has none */
+    long thread;                    /* as the kernel counts */
+    bool is_known;                  /* the kernel gave the number to no other one */
+    bool is_further;                /* it is a third one, or stands for a further one */
+    bool is_at_once;                /* it did so at one time alone */
 };
 
 struct single {
@@ -85,30 +74,21 @@ struct single {
     size_t steps, step_room;
     const char **site; /* the places of these in the source, by the file's numbers; NULL of others */
     size_t sites;
-    bool is_full;             /* there may be further pairs */
-    unsigned long lost;       /* calls for which the file had no room, or what their thread holds */
-    struct single_life *life; /* by their threads, after single_sort */
-    size_t lives, life_room;
-    struct single_join *join;
-    size_t joins, join_room;
+    unsigned long lost; /* calls for which the file had no room, or what their thread holds */
+    struct text told;   /* the lines of pairs and threads, as the verifier reads them */
+    struct text lives;  /* those of threads alone */
 };
 
-/*
- * Takes in a line, if it is one of these words; after a malformed one pairs may be missing. What is told of one pair is put
- * together: its threads, and what was held besides each time.
- */
-void single_read(struct single *single, const char *line, size_t length);
-/* After the last line, and where more have come since. */
-void single_sort(struct single *single);
+/* Takes in a line of a pair whose locks are of those types. One that is malformed is none. */
+void single_reads_pair(struct single *single, const struct line *line, uint32_t held, uint32_t asked);
+/* A line of an errand. */
+void single_reads_errand(struct single *single, const struct line *line);
 void single_end(struct single *single);
 
-/* Whether pairs of single locks may be missing. */
-bool single_lacks_pairs(const struct single *single);
+/* The pair of these serial numbers and modes, that was asked for so; NULL where there is none. */
+const struct single_pair *single_pair_like(const struct single *single, const struct single_pair *like);
 
 /* The place in the source; NULL where it isn't known. */
 const char *single_site(const struct single *single, uint32_t place);
-
-/* Whether the kernel gave the number to a second thread, too. */
-bool single_is_reused(const struct single *single, long thread);
 
 #endif

@@ -11,7 +11,6 @@
 #include "findings_run.h"
 #include "follow.h"
 #include "grades.h"
-#include "graph.h"
 #include "learn.h"
 #include "legality.h"
 #include "allocation.h"
@@ -332,7 +331,6 @@ static void tell_all(struct process *process)
         learn_take(process);
     tell_missed(process);
     keep_for_later(process);
-    draw(process);
     keep_trace(process);
     findings_take(process);
 }

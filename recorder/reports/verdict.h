@@ -15,6 +15,7 @@ struct verdict {
     int status;      /* where it wasn't begun: why, as a shell says it */
     int in, out;     /* -1 where closed */
     bool had_little; /* of what it told, when that was taken last */
+    int patience; /* how many milliseconds it may take and tell nothing, before it is ended; -1 for ever, as it begins */
 };
 
 /* Begins it. The trace comes by `verdict_feed`. What it complains of is on standard error. */
@@ -29,11 +30,17 @@ void verdict_feed(struct verdict *verdict, const char *bytes, size_t length);
 /* Waits for what it tells next. False where it tells no more. */
 bool verdict_hears(struct verdict *verdict);
 
-/* Whether what `witness findings` has told ends with all of a moment: what it tells where a line `look` asks for it. */
-bool verdict_told_moment(const char *told, size_t length);
-
 /* No more of the trace comes. Its status, as a shell says it. */
 int verdict_end(struct verdict *verdict);
+
+/* Nothing more is wanted of it: it is ended at once. */
+void verdict_leaves(struct verdict *verdict);
+
+/*
+ * All that it tells of the text, a text of one's own; NULL where it takes longer for the next of that, or fails. It complains to
+ * nobody.
+ */
+char *verdict_on_text(const char *witness, const char *word, const char *text, size_t length, int patience);
 
 /* All of it, on the trace in a file; it complains to nobody. */
 int verdict_on(const char *witness, const char *word, const char *trace, FILE *told);

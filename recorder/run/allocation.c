@@ -49,3 +49,15 @@ char *say_text(const char *format, ...)
     va_end(words);
     return there(length < 0 ? NULL : text);
 }
+
+void text_add(struct text *text, const char *bytes, size_t length)
+{
+    if (text->length + length + 1 > text->room) {
+        text->room = 2 * (text->length + length + 1);
+        text->bytes = grow(text->bytes, text->room, 1);
+    }
+    if (length > 0)
+        memcpy(text->bytes + text->length, bytes, length);
+    text->length += length;
+    text->bytes[text->length] = '\0';
+}

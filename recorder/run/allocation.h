@@ -13,6 +13,13 @@ char *copy_bytes(const char *bytes, size_t length);
 /* As sprintf, into a text of one's own. */
 char *say_text(const char *format, ...) __attribute__((format(printf, 1, 2)));
 
+/* A text that grows; all zeroes is an empty one. After what was added stands a zero. */
+struct text {
+    char *bytes;
+    size_t length, room;
+};
+void text_add(struct text *text, const char *bytes, size_t length);
+
 /* Room for one more at the end of a growing array: ADD(list, count, room) is an lvalue of the new last one. */
 #define ADD(list, count, room)                                                                                         \
     (*((count) < (room) ? 0 : ((room) = (room) ? 2 * (room) : 16, (list) = grow((list), (room), sizeof *(list)), 0),   \

@@ -62,8 +62,8 @@ static bool is_repeated_by(const struct single *single, uint32_t lock, long thre
         const struct single_pair *pair = &single->pair[i];
         if (pair->how != SINGLE_REPEATEDLY || pair->asked.serial != lock)
             continue;
-        for (size_t at = 0; at < pair->deeds; at++)
-            if (pair->deed[at].thread == thread)
+        for (size_t told = pair->told; told; told = single->telling[told - 1].before)
+            if (single->telling[told - 1].thread == thread)
                 return true;
     }
     return false;
@@ -72,10 +72,10 @@ static bool is_repeated_by(const struct single *single, uint32_t lock, long thre
 /* Whether each thread that asked so with a time limit came to do it again and again. Of further ones it isn't known. */
 static bool is_repeated(const struct single *single, const struct single_pair *timed)
 {
-    for (size_t i = 0; i < timed->deeds; i++)
-        if (!is_repeated_by(single, timed->asked.serial, timed->deed[i].thread))
+    for (size_t told = timed->told; told; told = single->telling[told - 1].before)
+        if (!is_repeated_by(single, timed->asked.serial, single->telling[told - 1].thread))
             return false;
-    return !timed->further;
+    return !timed->is_further;
 }
 
 /* Whether a thread of a circle may wait for the lock with a time limit. */

@@ -120,7 +120,7 @@ static void tell_of(struct process *process, struct followed *followed)
 /* The lines that weren't read, where the verifier goes on, else all. */
 static bool open_stream(struct process *process, struct followed *followed, const char *path)
 {
-    if (followed->going->is_begun)
+    if (followed->going->verifier.is_begun)
         return stream_open_after(&process->stream, path, followed->length, true);
     if (stream_room(path) > BYTES_MOST || !stream_open(&process->stream, path, true))
         return false;
@@ -150,11 +150,11 @@ struct live_verdict *follow_verdict(struct run *run, const struct process *proce
     size_t going = 0;
     struct followed *mine = NULL;
     for (size_t i = 0; i < run->followeds; i++) {
-        going += run->followed[i].going->is_begun;
+        going += run->followed[i].going->verifier.is_begun;
         if (strcmp(run->followed[i].name, process->recording->name) == 0)
             mine = &run->followed[i];
     }
-    return mine && (mine->going->is_begun || (process->is_followed && going < GOING_MOST)) ? mine->going : NULL;
+    return mine && (mine->going->verifier.is_begun || (process->is_followed && going < GOING_MOST)) ? mine->going : NULL;
 }
 
 /* The verifier of the stream ends with what there is of it. */
@@ -177,7 +177,7 @@ void follow_stops(struct run *run)
     find_recordings(run);
     for (size_t i = 0; i < run->recordings; i++) {
         struct followed *followed = followed_of(run, run->recording[i].name);
-        if (followed->going->is_begun)
+        if (followed->going->verifier.is_begun)
             stop(run, &run->recording[i], followed);
     }
     forget_recordings(run);
@@ -193,7 +193,7 @@ void follow(struct run *run)
         struct followed *followed = followed_of(run, run->recording[i].name);
         long long before = microseconds();
         read_stream(run, &run->recording[i], followed);
-        anew += followed->going->is_begun ? 0 : microseconds() - before;
+        anew += followed->going->verifier.is_begun ? 0 : microseconds() - before;
     }
     forget_recordings(run);
     long long now = microseconds(), pause = PAUSE * (now - begun - anew);

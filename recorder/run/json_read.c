@@ -187,6 +187,12 @@ const char *text_of(const struct value *object, const char *name)
     return value && value->kind == VALUE_TEXT ? value->text : NULL;
 }
 
+const char *words_of(const struct value *object, const char *name)
+{
+    const char *text = text_of(object, name);
+    return text ? text : "";
+}
+
 long long number_of(const struct value *object, const char *name)
 {
     const struct value *value = value_of(object, name);

@@ -23,6 +23,8 @@ const struct value *json_read(const char *text, struct texts *texts);
 const struct value *value_of(const struct value *object, const char *name);
 /* Its text; NULL where it is none. */
 const char *text_of(const struct value *object, const char *name);
+/* The same; an empty text where it is none. */
+const char *words_of(const struct value *object, const char *name);
 /* Its number, which may be a truth; 0 where it is none. */
 long long number_of(const struct value *object, const char *name);
 /* The list of that name: its first value; NULL where there is none. */

@@ -104,8 +104,8 @@ void replayer_check(struct settings *settings)
     settings->one_by_one = status != 0;
     if (settings->judge && !knows(witness, "migrate", ""))
         fail("%s doesn't know --judge: nothing was run", witness);
-    if (is_asked(settings->html) && !document_is_known(witness, "html"))
-        fail("%s doesn't know the word html: nothing was run", witness);
-    if (is_asked(settings->sarif) && !document_is_known(witness, "sarif"))
-        fail("%s doesn't know the word sarif: nothing was run", witness);
+    const char *const documents[][2] = {{settings->html, "html"}, {settings->sarif, "sarif"}, {settings->graph, "dot"}};
+    for (size_t i = 0; i < sizeof documents / sizeof *documents; i++)
+        if (is_asked(documents[i][0]) && !document_is_known(witness, documents[i][1]))
+            fail("%s doesn't know the word %s: nothing was run", witness, documents[i][1]);
 }

@@ -295,6 +295,19 @@ static void read_init(struct declared *declared, const struct line *line)
     declared->has_news = true;
 }
 
+/* A type without a lock that is told of may come to be another one's, as one with a lock may. */
+static void read_pair(struct declared *declared, const struct line *line)
+{
+    uint32_t number;
+    for (unsigned lock = PAIR_HELD; lock <= PAIR_ASKED; lock += PAIR_ASKED - PAIR_HELD) {
+        if (!field_number(line, lock + PAIR_TYPE, TYPE_MOST - 1, &number) || number == 0)
+            continue;
+        struct type *type = type_at(declared, number);
+        declared->has_news |= !type->class && !type->is_in_pairs;
+        type->is_in_pairs = true;
+    }
+}
+
 static void read_foreign(struct declared *declared, const struct line *line)
 {
     uint32_t seat;
@@ -351,6 +364,7 @@ static const struct {
     {WORD_CROWDED, read_crowded},
     {WORD_FOREIGN, read_foreign},
     {WORD_MANY, read_many},
+    {WORD_PAIR, read_pair},
 };
 
 static void read_line(struct declared *declared, const struct line *line)

@@ -62,6 +62,7 @@ struct type {
     const char *label; /* that, as it is told: without its column where no other label has another one */
     uint32_t column; /* in the line at the label's end, also where the label goes without it; 0 where it isn't known */
     const char *class; /* of its first lock; NULL where there is none */
+    bool is_in_pairs;  /* a pair of single locks is told with it */
     const uint32_t *place;
     size_t count;
     bool has_offset; /* its locks stand at that offset in their blocks of memory */

@@ -18,12 +18,6 @@
 /* What a trace has room for, and what is kept of a name that its object follows. */
 enum { NAME_MOST = 63, NAME_KEPT = 40 };
 
-/* A text that grows. */
-struct text {
-    char *bytes;
-    size_t length, room;
-};
-
 /* A type as it is named. */
 struct naming {
     struct text source, plain, functions;
@@ -40,13 +34,7 @@ struct namer {
 
 static void add(struct text *text, const char *more)
 {
-    size_t length = strlen(more);
-    if (text->length + length + 1 > text->room) {
-        text->room = 2 * (text->length + length + 1);
-        text->bytes = grow(text->bytes, text->room, 1);
-    }
-    memcpy(text->bytes + text->length, more, length + 1);
-    text->length += length;
+    text_add(text, more, strlen(more));
 }
 
 static const char *bytes_of(const struct text *text)
@@ -245,7 +233,7 @@ static void read_type(struct namer *namer, uint32_t number)
 {
     const struct type *type = &namer->declared->type[number];
     struct naming *naming = &namer->naming[number];
-    namer->types->type[number].has_locks = type->class != NULL;
+    namer->types->type[number].has_locks = type->class != NULL || type->is_in_pairs;
     if (read_array(namer, number))
         return;
     add(&naming->source, type->class ? type->class : "");

@@ -22,9 +22,9 @@ struct named_type {
     struct lasting lasting;
     const char *alone; /* what it would be called if it weren't one with the first; NULL where that is a type's name */
     const char *functions; /* the functions of its places; NULL where its name is that of a variable */
-    bool has_locks;
-    bool is_array;  /* it is all locks of a variable that has many */
-    bool is_member; /* it is all locks of a member that no call has made */
+    bool has_locks;        /* or is told of in pairs of single locks */
+    bool is_array;         /* it is all locks of a variable that has many */
+    bool is_member;        /* it is all locks of a member that no call has made */
 };
 
 struct types {

@@ -356,9 +356,53 @@ static void note_error(struct verifier_lines *writing, const struct line *line)
     event->site = site_of(writing->making->sites, place_in(line, 4));
 }
 
+/* What is told of single locks stays until a grade is asked for, which stands on it. */
 static void note_single(struct verifier_lines *writing, const struct line *line)
 {
-    single_read(&writing->notes->single, line->at, (size_t)(line->end - line->at));
+    struct text *told = &writing->notes->single.told;
+    text_add(told, line->field[0].at, (size_t)(line->end - line->field[0].at));
+    text_add(told, "\n", 1);
+}
+
+static void note_life(struct verifier_lines *writing, const struct line *line)
+{
+    struct single *single = &writing->notes->single;
+    size_t before = single->told.length;
+    note_single(writing, line);
+    text_add(&single->lives, single->told.bytes + before, single->told.length - before);
+}
+
+/* What stands before the type's number, and that of the first of those that are one with it, which is the answer. */
+static uint32_t note_type(struct verifier_lines *writing, const struct line *line, unsigned number, const char **at)
+{
+    const struct types *types = writing->making->types;
+    struct text *told = &writing->notes->single.told;
+    char digits[16];
+    uint32_t type;
+    if (!field_number(line, number, TYPE_MOST - 1, &type) || type >= types->count)
+        return 0;
+    const struct field *field = &line->field[number];
+    type = types->type[type].first;
+    text_add(told, *at, (size_t)(field->at - *at));
+    text_add(told, digits, (size_t)sprintf(digits, "%" PRIu32, type));
+    *at = field->at + field->length;
+    return type;
+}
+
+static void note_pair(struct verifier_lines *writing, const struct line *line)
+{
+    struct single *single = &writing->notes->single;
+    const char *at = line->field[0].at;
+    uint32_t held = note_type(writing, line, PAIR_HELD + PAIR_TYPE, &at);
+    uint32_t asked = note_type(writing, line, PAIR_ASKED + PAIR_TYPE, &at);
+    text_add(&single->told, at, (size_t)(line->end - at));
+    text_add(&single->told, "\n", 1);
+    single_reads_pair(single, line, held, asked);
+}
+
+static void note_errand(struct verifier_lines *writing, const struct line *line)
+{
+    single_reads_errand(&writing->notes->single, line);
 }
 
 static void note_site(struct verifier_lines *writing, uint32_t place)
@@ -467,11 +511,11 @@ static const struct {
     {WORD_ANSWER, note_answer},
     {WORD_OWNER, note_owner},
     {WORD_ERROR, note_error},
-    {WORD_PAIR, note_single},
-    {WORD_ERRAND, note_single},
+    {WORD_PAIR, note_pair},
+    {WORD_ERRAND, note_errand},
     {WORD_MANY, note_single},
-    {WORD_LIFE, note_single},
-    {WORD_JOINED, note_single},
+    {WORD_LIFE, note_life},
+    {WORD_JOINED, note_life},
 };
 
 static void write_line(struct verifier_lines *writing, const struct line *line)
@@ -518,6 +562,5 @@ bool verifier_lines_write(struct verifier_lines *writing, const char *at, const 
     note_lost(writing);
     note_whole(writing);
     note_sites(writing);
-    single_sort(&writing->notes->single);
     return fflush(to) == 0 && !ferror(to) && !writing->is_odd;
 }

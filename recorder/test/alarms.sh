@@ -23,14 +23,15 @@ reused() {
     changed "$1" "numbers were given twice" 's/^life \([0-9]*\) \([0-9]*\) [0-9]*$/&\nlife \1 \2 9/' "$2"
 }
 
-# graded WHAT SCRIPT WANTED: what stands below the report of two threads where the shell does the script in place of
-# `witness grade`. It counts all the same.
+# graded WHAT BEFORE AFTER WANTED: what stands below the report of two threads where these filters stand before `witness
+# findings` and after it. It counts all the same.
 graded() {
-    printf '#!/bin/sh\n[ "$1" != grade ] || { %s; exit; }\nexec "%s" "$@"\n' "$2" "$WITNESS" >grader && chmod +x grader
+    printf '#!/bin/sh\n[ "$1" = findings ] || exec "%s" "$@"\n%s | "%s" findings | %s\n' "$WITNESS" "$2" "$WITNESS" "$3" >grader &&
+        chmod +x grader
     RECORDER_DEPTH=1 RECORD_FRAMES=8 WITNESS=$work/grader "$record" --error-exitcode 9 -- ./single locks 2>recorded.err
     status=$?
     sed -n '/^single locks: /p' recorded.err >below
-    echo "single locks: not known, $3" | diff - below && [ $status -eq 9 ]
+    echo "single locks: not known, $4" | diff - below && [ $status -eq 9 ]
     tell alarms "not known: $1" $?
 }
 
@@ -82,17 +83,19 @@ if wanted alarms; then
     # Others may read, so who waits as a reader may have lost the lock to one that took it under what was kept.
     changed under "the wait ends as a reader's" '/^pair /s/ xw/ sw/' 'both orders, the same locks, threads N and M'
     unanswered="the verifier didn't answer; a smaller part of the work may show it"
-    graded "a program that doesn't know the word" 'exit 2' "$unanswered"
-    graded "a program that ends" 'head -n 1 >/dev/null' "$unanswered"
-    graded "a program that says what it reads" cat "$unanswered"
-    graded "a program that names facts that there aren't" 'sed -u "s/^grade$/same 0 77/;t;d"' "$unanswered"
-    graded "a program that hangs" 'exec sleep 300' "$unanswered"
+    graded "a program that doesn't know the word" 'sed -u "s/^grade /graded /"' cat "$unanswered"
+    graded "a program that ends" 'sed -u "/^grade /Q"' cat "$unanswered"
+    graded "a program that says something else" cat 'sed -u "s/^{\"finding\":\"grade\"/{\"finding\":\"graded\"/"' "$unanswered"
+    graded "a program that grades a report that there isn't" cat \
+        'sed -u "s/\(\"finding\":\"grade\",.*\"line\":\)[0-9]*/\17/"' "$unanswered"
+    graded "a program that hangs" 'sed -u "/^grade /d"' cat "$unanswered"
     compile deadlock
     WITNESS=$work/grader "$record" --on-deadlock kill -- ./deadlock 2>recorded.err >/dev/null &
     within grep -q ' is ended: its threads wait for one another$' recorded.err
     tell alarms "a deadlock is seen while such a program has no answer" $?
     wait $!
-    graded "facts are missing" 'sed -u "s/^grade$/unknown/;t;d"' 'there were more orders of such locks than are kept'
+    graded "facts are missing" cat 'sed -u "s/\"grade\":\"same\",\(.*\"circle\":\).*,\"reasons\"/\"grade\":\"unknown\",\1[],\"reasons\"/"' \
+        'there were more orders of such locks than are kept'
     mkdir -p top/tools top/bin top/crates/witness/out && printf '#!/bin/sh\nexit 1\n' >top/tools/build && cp top/tools/build top/bin/rt &&
         printf '#!/bin/sh\nexec "%s" "$@"\n' "$WITNESS" >top/witness && chmod +x top/tools/build top/bin/rt top/witness
     unbuilt "not known: a program that isn't built" "not known, the verifier isn't built, and a trial of it isn't asked; make builds it"

@@ -26,8 +26,11 @@ static void print_notes(const struct notes *notes)
         printf("lock %zu is %s of %s\n", i + 1, notes->lock[i].name, notes->lock[i].type);
     for (size_t i = 0; i < notes->single.pairs; i++) {
         const struct single_pair *pair = &notes->single.pair[i];
+        size_t first = pair->told;
+        while (first && notes->single.telling[first - 1].before)
+            first = notes->single.telling[first - 1].before;
         printf("pair %u %u at %s\n", pair->held.type, pair->asked.type,
-            pair->deeds > 0 ? single_site(&notes->single, pair->deed[0].place) : "-");
+            first ? single_site(&notes->single, notes->single.telling[first - 1].place) : "-");
     }
 }
 

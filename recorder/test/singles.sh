@@ -44,6 +44,14 @@ if wanted hand; then
         told_as ring $count 9 'all orders of the circle, the same locks, threads N and M; the others @ hand.c:28'
     done
     told_as far 100 9 'all orders of the circle, the same locks, threads N and M; the others @ hand.c:37, hand.c:28'
+    # The first report is of many pairs, the second one of few: that it is asked about first.
+    compile several
+    printf '#!/bin/sh\n[ "$1" = findings ] || exec "%s" "$@"\ntee -a "%s/lines" | "%s" findings\n' "$WITNESS" "$work" "$WITNESS" >tells &&
+        chmod +x tells && rm -f lines
+    WITNESS=$work/tells "$record" --quiet -- ./several 100 2>recorded.err
+    set -- $(sed -n 's/^grade //p' lines)
+    [ $# -eq 2 ] && [ "$1" -gt "$2" ] && grep -q '^record: 2 reports' recorded.err
+    tell hand "a report of few pairs is graded first" $?
 fi
 
 # fact WHAT WANTED WORDS..: the pairs of `facts WORDS` are those.

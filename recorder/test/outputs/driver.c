@@ -20,6 +20,7 @@
 #include <stdlib.h>
 #include <string.h>
 
+#include "document.h"
 #include "findings.h"
 #include "json.h"
 #include "allocation.h"
@@ -218,8 +219,12 @@ int main(int count, char **words)
     if (!from || !read_case(from))
         return 2;
     fclose(from);
+    size_t length = 0;
+    const char *witness = getenv("WITNESS");
+    char *report = document_report(&findings, &length);
     if (!strcmp(words[1], "pictures"))
-        pictures_draw(&findings);
+        pictures_draw(&findings, witness ? witness : "witness", report, length);
+    free(report);
     json_write(stdout, &findings);
     return 0;
 }
