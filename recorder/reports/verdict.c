@@ -5,12 +5,20 @@
 #include <poll.h>
 #include <signal.h>
 #include <spawn.h>
+#include <stdlib.h>
 #include <string.h>
 #include <sys/wait.h>
 #include <time.h>
 #include <unistd.h>
 
-enum { PIPE_BYTES = 1 << 20, READ_BYTES = 1 << 16, LITTLE_BYTES = 1 << 12, MOMENT = 300000 };
+enum {
+    PIPE_BYTES = 1 << 20,
+    READ_BYTES = 1 << 16,
+    LITTLE_BYTES = 1 << 12,
+    MOST_BYTES = 1 << 26,
+    MOMENT = 300000,
+    SIGNALLED = 128
+};
 
 extern char **environ;
 
@@ -40,10 +48,10 @@ static void spawn(struct verdict *verdict, const char *const *words, int in, int
 }
 
 /* Begins it with that file for its input, or with a pipe. */
-static void begin(struct verdict *verdict, const char *const *words, int trace, FILE *told)
+static void begin(struct verdict *verdict, const char *const *words, int trace, bool quiet, FILE *told)
 {
     int in[2] = {trace, -1}, out[2];
-    *verdict = (struct verdict){.told = told, .status = 126, .in = -1, .out = -1};
+    *verdict = (struct verdict){.told = told, .status = 126, .in = -1, .out = -1, .patience = -1};
     if (trace < 0 && pipe2(in, O_CLOEXEC) != 0)
         return;
     if (pipe2(out, O_CLOEXEC) != 0) {
@@ -53,7 +61,7 @@ static void begin(struct verdict *verdict, const char *const *words, int trace, 
         }
         return;
     }
-    spawn(verdict, words, in[0], out[1], trace >= 0);
+    spawn(verdict, words, in[0], out[1], quiet);
     close(out[1]);
     verdict->out = out[0];
     if (trace >= 0)
@@ -71,7 +79,7 @@ void verdict_begin(struct verdict *verdict, const char *witness, const char *wor
 
 void verdict_ask(struct verdict *verdict, const char *const *words, FILE *told)
 {
-    begin(verdict, words, -1, told);
+    begin(verdict, words, -1, false, told);
 }
 
 static void close_file(int *file)
@@ -101,12 +109,24 @@ static void take_output(struct verdict *verdict)
         close_file(&verdict->out);
 }
 
+/* It takes too long, or isn't wanted any more. It has nothing to lose. While it runs its files stay open, or it would complain. */
+static void cut_off(struct verdict *verdict)
+{
+    if (verdict->process != 0)
+        kill(verdict->process, SIGKILL);
+    close_file(&verdict->in);
+    close_file(&verdict->out);
+}
+
 /* What it tells is taken between, so that neither waits for the other. */
 void verdict_feed(struct verdict *verdict, const char *bytes, size_t length)
 {
     while (length > 0 && verdict->in >= 0) {
         struct pollfd files[] = {{.fd = verdict->in, .events = POLLOUT}, {.fd = verdict->out, .events = POLLIN}};
-        if (poll(files, 2, -1) < 0 && errno != EINTR)
+        int ready = poll(files, 2, verdict->patience);
+        if (ready == 0)
+            cut_off(verdict);
+        if (ready == 0 || (ready < 0 && errno != EINTR))
             return;
         if (files[1].revents)
             take_output(verdict);
@@ -126,18 +146,14 @@ void verdict_feed(struct verdict *verdict, const char *bytes, size_t length)
 
 bool verdict_hears(struct verdict *verdict)
 {
+    struct pollfd file = {.fd = verdict->out, .events = POLLIN};
     let_come(verdict);
-    if (verdict->out >= 0)
+    int ready = verdict->out >= 0 ? poll(&file, 1, verdict->patience) : -1;
+    if (ready == 0)
+        cut_off(verdict);
+    else if (ready > 0)
         take_output(verdict);
     return verdict->out >= 0;
-}
-
-bool verdict_told_moment(const char *told, size_t length)
-{
-    static const char clean[] = "{\"finding\":\"clean\"";
-    const char *last = length > 0 && told[length - 1] == '\n' ? memrchr(told, '\n', length - 1) : NULL;
-    last = last ? last + 1 : told;
-    return length > sizeof clean && told[length - 1] == '\n' && strncmp(last, clean, sizeof clean - 1) == 0;
 }
 
 int verdict_end(struct verdict *verdict)
@@ -151,7 +167,37 @@ int verdict_end(struct verdict *verdict)
     while (waitpid(verdict->process, &status, 0) < 0)
         if (errno != EINTR)
             return 126;
-    return WIFSIGNALED(status) ? 128 + WTERMSIG(status) : WEXITSTATUS(status);
+    verdict->process = 0;
+    verdict->status = WIFSIGNALED(status) ? SIGNALLED + WTERMSIG(status) : WEXITSTATUS(status);
+    return verdict->status;
+}
+
+void verdict_leaves(struct verdict *verdict)
+{
+    cut_off(verdict);
+    verdict_end(verdict);
+}
+
+char *verdict_on_text(const char *witness, const char *word, const char *text, size_t length, int patience)
+{
+    struct verdict verdict;
+    char *told = NULL;
+    size_t told_length = 0;
+    FILE *to = open_memstream(&told, &told_length);
+    if (!to)
+        return NULL;
+    begin(&verdict, (const char *const[]){witness, word, NULL}, -1, true, to);
+    verdict.patience = patience;
+    verdict_feed(&verdict, text, length);
+    close_file(&verdict.in);
+    while (verdict_hears(&verdict))
+        if (fflush(to) != 0 || told_length > MOST_BYTES)
+            cut_off(&verdict);
+    int status = verdict_end(&verdict);
+    if (fclose(to) == 0 && status < SIGNALLED)
+        return told;
+    free(told);
+    return NULL;
 }
 
 int verdict_on(const char *witness, const char *word, const char *trace, FILE *told)
@@ -160,7 +206,7 @@ int verdict_on(const char *witness, const char *word, const char *trace, FILE *t
     int file = open(trace, O_RDONLY | O_CLOEXEC);
     if (file < 0)
         return 126;
-    begin(&verdict, (const char *const[]){witness, word, NULL}, file, told);
+    begin(&verdict, (const char *const[]){witness, word, NULL}, file, true, told);
     close(file);
     return verdict_end(&verdict);
 }
