@@ -7,23 +7,17 @@
 #[cfg(test)]
 mod adoptions;
 #[cfg(test)]
-mod alarms;
-#[cfg(test)]
 mod all_held;
 #[cfg(test)]
 mod chains;
 #[cfg(test)]
 mod chunks;
 #[cfg(test)]
-mod documents;
-#[cfg(test)]
 mod ends;
 #[cfg(test)]
 mod fakes;
 #[cfg(test)]
 mod flushes;
-#[cfg(test)]
-mod forecasts;
 #[cfg(test)]
 mod lines;
 #[cfg(test)]
