@@ -55,6 +55,29 @@ opened() {
     [ $opened -eq 0 ] && [ -s opened ]
 }
 
+# fits_in WIDTH REPORTS PAGE: whether so many pixels are enough for the page, which has so many reports. It stands in a frame of
+# that width, and may be looked at since both are files.
+fits_in() {
+    cat >frame.html <<'END'
+<!DOCTYPE html><title>not known</title><body><script>
+const [page, width] = location.search.slice(1).split(',');
+const frame = document.createElement('iframe');
+frame.style = 'border: 0; height: 800px; width: ' + width + 'px';
+frame.onload = () => {
+    const root = frame.contentDocument.documentElement;
+    const fits = root.scrollWidth > 0 && root.scrollWidth <= root.clientWidth;
+    document.title = (fits ? 'fits, ' : 'is wider, ') + frame.contentDocument.querySelectorAll('article').length + ' reports';
+};
+frame.src = page;
+document.body.append(frame);
+</script>
+END
+    rm -rf profile
+    timeout 300 "$browser" --headless --no-sandbox --disable-gpu --no-first-run --user-data-dir="$work/profile" \
+        --allow-file-access-from-files --window-size=1400,900 --virtual-time-budget=20000 \
+        --dump-dom "file://$work/frame.html?$3,$1" 2>/dev/null | grep -q "<title>fits, $2 reports"
+}
+
 # recorded_to NAME OPTIONS AND COMMAND..: leaves NAME.html, NAME.json and NAME.sarif of a run.
 recorded_to() {
     to=$1
@@ -236,5 +259,12 @@ if wanted outputs; then
             --print-to-pdf="$work/kinds.pdf" "file://$work/kinds.html" >/dev/null 2>&1
         [ "$(head -c 5 kinds.pdf)" = %PDF- ]
         tell outputs "it can be printed" $?
+        python3 -c 'import json, sys
+report = json.load(sys.stdin)
+report["reports"] = (report["reports"] * 15)[:100]
+json.dump(report, sys.stdout)' <kinds.json | "$WITNESS" html >hundred.html
+        fits_in 1280 7 kinds.html && fits_in 390 7 kinds.html && fits_in 1280 100 hundred.html && fits_in 390 100 hundred.html &&
+            ! fits_in 200 7 kinds.html
+        tell outputs "it fits a screen of 1280 pixels and a telephone's 390, of seven reports and of a hundred" $?
     fi
 fi
