@@ -6,6 +6,11 @@
 /* The shared one keeps what it knows of each process to its end: after so many another one is begun. */
 enum { SHORT_BYTES = 1 << 20, ANSWERS_BYTES = 1 << 26, DEATH = 126, PROCESSES_MOST = 64 };
 
+void answers_stop(struct answers *answers)
+{
+    verifier_leaves(&answers->shared);
+}
+
 void answers_end(struct answers *answers)
 {
     for (size_t i = 0; i < answers->count; i++) {
@@ -13,7 +18,7 @@ void answers_end(struct answers *answers)
         free(answers->answer[i].told.bytes);
     }
     free(answers->answer);
-    verifier_leaves(&answers->shared);
+    answers_stop(answers);
     *answers = (struct answers){0};
 }
 

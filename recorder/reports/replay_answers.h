@@ -27,6 +27,9 @@ struct answers {
     bool is_one_by_one; /* none can be run, or judge one after another */
 };
 
+/* No verifier goes on. What was told is kept, and another one is begun where it is wanted. */
+void answers_stop(struct answers *answers);
+
 void answers_end(struct answers *answers);
 
 /* Lines that come, as long as they are few; more of them go to the verifier as they come. */

@@ -172,6 +172,7 @@ static void stop(struct run *run, const struct recording *recording, struct foll
     free(path);
 }
 
+/* What goes on after this was begun by the program. */
 void follow_stops(struct run *run)
 {
     find_recordings(run);
@@ -181,6 +182,7 @@ void follow_stops(struct run *run)
             stop(run, &run->recording[i], followed);
     }
     forget_recordings(run);
+    answers_stop(&run->answers);
 }
 
 void follow(struct run *run)

@@ -104,6 +104,16 @@ if wanted once && has_libdw once; then
     WITNESS=$verifier
 fi
 
+# What `record` has begun itself is nothing that goes on after the program.
+if wanted ended; then
+    compile live
+    "$record" -- true 2>/dev/null
+    "$record" -- sh -c 'for n in 1 2 3 4 5 6 7 8 9 10 11 12 13 14 15 16; do ./live 0; done; sleep 0.5' >recorded.out 2>recorded.err </dev/null
+    [ "$(grep -c 'lock order reversal' recorded.err)" -eq 1 ] && ! grep 'goes on' recorded.err &&
+        [ "$(tail -n 1 recorded.err)" = "record: 16 reports, 0 circles, 16 processes" ]
+    tell ended "nothing goes on after processes that were told of while others ran" $?
+fi
+
 # Each process has the report: it is told of one of them.
 if wanted equal; then
     compile live
