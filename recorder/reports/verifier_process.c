@@ -1,4 +1,4 @@
-#include "verifier.h"
+#include "verifier_process.h"
 
 #include <stdlib.h>
 #include <string.h>
