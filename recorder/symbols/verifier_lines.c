@@ -36,15 +36,10 @@ struct verifier_lines {
     bool is_odd;
 };
 
-static void put_bytes(FILE *to, const char *bytes, size_t length)
-{
-    fwrite_unlocked(bytes, 1, length, to);
-}
-
 /* The line as it stands. */
 static void put_line(struct verifier_lines *writing, const struct line *line)
 {
-    put_bytes(writing->to, line->at, (size_t)(line->end - line->at));
+    fwrite_unlocked(line->at, 1, (size_t)(line->end - line->at), writing->to);
     putc_unlocked('\n', writing->to);
 }
 
@@ -153,7 +148,7 @@ static size_t put_place(struct verifier_lines *writing, const struct line *line,
     do
         *--at = (char)('0' + number % 10);
     while (number /= 10);
-    put_bytes(writing->to, at, (size_t)(digits + sizeof digits - at));
+    fwrite_unlocked(at, 1, (size_t)(digits + sizeof digits - at), writing->to);
     return spot;
 }
 
@@ -164,7 +159,7 @@ static size_t put_placed(struct verifier_lines *writing, const struct line *line
         put_line(writing, line);
         return 0;
     }
-    put_bytes(writing->to, line->at, (size_t)(line->field[field].at - line->at));
+    fwrite_unlocked(line->at, 1, (size_t)(line->field[field].at - line->at), writing->to);
     return put_place(writing, line, field);
 }
 
@@ -269,7 +264,7 @@ static void put_made(struct verifier_lines *writing, const struct made_lock *mad
         put_line(writing, line);
         return;
     }
-    put_bytes(writing->to, line->at, (size_t)(line->field[FIELD_TYPE].at - line->at));
+    fwrite_unlocked(line->at, 1, (size_t)(line->field[FIELD_TYPE].at - line->at), writing->to);
     fprintf(writing->to, "%" PRIu32 " %.*s\n", made->type, (int)line->field[FIELD_TYPE + 1].length,
         line->field[FIELD_TYPE + 1].at);
 }
