@@ -108,10 +108,7 @@ static bool is_reports_own(const struct notes *notes, const struct report *repor
 static void add_place(struct alarm *alarm, const struct single *single, const struct value *does)
 {
     const char *site = single_site(single, (uint32_t)number_of(does, "place"));
-    size_t at = 0;
-    while (site && at < alarm->elsewheres && strcmp(alarm->elsewhere[at], site) != 0)
-        at++;
-    if (site && at == alarm->elsewheres && at < ALARM_THREADS)
+    if (site && alarm->elsewheres < ALARM_THREADS && !has_text(alarm->elsewhere, alarm->elsewheres, site))
         alarm->elsewhere[alarm->elsewheres++] = site;
 }
 

@@ -47,11 +47,8 @@ static void put_line(struct verifier_lines *writing, const struct line *line)
 static void note_blind(struct notes *notes, const char *object)
 {
     char *name = copy(object);
-    size_t at = 0;
     clean_name(name);
-    while (at < notes->blinds && strcmp(notes->blind[at], name) != 0)
-        at++;
-    if (at == notes->blinds)
+    if (!has_text(notes->blind, notes->blinds, name))
         ADD(notes->blind, notes->blinds, notes->blind_room) = texts_copy(notes->texts, name, strlen(name));
     free(name);
 }
