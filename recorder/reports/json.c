@@ -22,14 +22,14 @@ static void write_number(struct objects *to, const char *name, long number)
 /* Where the first lock of a step was taken; null where that isn't known. */
 static void write_taken(struct objects *to, const struct notes *notes, size_t number)
 {
-    const struct spot *spot = number > 0 && number <= notes->spots ? &notes->spot[number - 1] : NULL;
+    const struct spot *spot = notes_spot(notes, number);
     if (!spot) {
         object_text(to, "taken", NULL);
         return;
     }
     object_open(to, "taken", '{');
     json_site(to, spot->site);
-    json_calls(to, spot->frames > 0 && spot->frames <= notes->framed ? &notes->frames[spot->frames - 1] : NULL);
+    json_calls(to, notes_frames(notes, number));
     object_close(to, '{');
 }
 

@@ -16,21 +16,13 @@ struct scene {
     size_t names, room;
 };
 
-/* What is known of a seat's thread. */
-static char *label_of(const struct notes *notes, unsigned seat)
-{
-    for (size_t i = notes->events; i > 0; i--)
-        if (notes->event[i - 1].kind == EVENT_THREAD && notes->event[i - 1].seat == seat)
-            return thread_label(&notes->event[i - 1]);
-    return copy("");
-}
-
 /* A line of the seat. The first one says which thread it is. What is told there is let go. */
 static void add(struct scene *scene, unsigned seat, char *what, size_t spot)
 {
     const struct notes *notes = &scene->process->notes;
     char *before = scene->text[seat];
-    char *label = before ? copy("") : label_of(notes, seat), *told = place_told(notes_site(notes, spot));
+    char *label = thread_label(before ? NULL : notes_thread(notes, seat, notes->events));
+    char *told = place_told(notes_site(notes, spot));
     scene->text[seat] = say_text("%s seat %u%s %s %s\n", before ? before : "", seat, label, what, told);
     free(told);
     free(label);
