@@ -1,6 +1,7 @@
 #include "declarations.h"
 
 #include "columns.h"
+#include "files.h"
 #include "format.h"
 #include "allocation.h"
 #include "progress.h"
@@ -431,7 +432,7 @@ const struct place *place_of(const struct declared *declared, uint32_t number)
 const char *object_name(const struct declared *declared, uint32_t number)
 {
     const struct object *object = object_of(declared, number);
-    return object->called ? object->called : object->path ? base_of(object->path) : "";
+    return object->called ? object->called : object->path ? file_base(object->path) : "";
 }
 
 const char *variable_name(const struct declared *declared, const struct variable *variable)

@@ -1,6 +1,7 @@
 #include "members.h"
 
 #include "allocation.h"
+#include "files.h"
 #include "scopes.h"
 #include "source_names.h"
 #include "source_text.h"
@@ -54,9 +55,7 @@ static bool find_called(const struct entry *around, const char *name, struct ent
 static bool find_named(const struct context *context, const char *name, struct value *value)
 {
     uint64_t address;
-    const char *last = name;
-    for (const char *at = strstr(name, "::"); at; at = strstr(last, "::"))
-        last = at + 2;
+    const char *last = last_part(name);
     *value = (struct value){0};
     if (strcmp(name, "this") == 0)
         return find_local(context, name, &value->variable) && entry_type(&value->variable, &value->type);
@@ -186,8 +185,8 @@ static void name_of_class(const struct value *value, struct member *member)
     if (!class)
         return;
     bool is_private = ends_with(file, ".c") || strstr(class, "{anonymous}");
-    member->name = say_text("%s::%s%s%s%s", class, value->path, is_private ? " (" : "", is_private ? base_of(file) : "",
-        is_private ? ")" : "");
+    member->name = say_text("%s::%s%s%s%s", class, value->path, is_private ? " (" : "",
+        is_private ? file_base(file) : "", is_private ? ")" : "");
     member->identity = say_text("class %s::%s %s", class, value->path, file);
     free(class);
 }

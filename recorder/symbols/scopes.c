@@ -1,5 +1,6 @@
 #include "scopes.h"
 
+#include "files.h"
 #include "source_names.h"
 
 #include <limits.h>
@@ -15,7 +16,7 @@ bool is_named(const struct entry *entry, const char *name)
 static int line_of_function(const struct context *context, const struct entry *function)
 {
     const char *file = entry_file(function);
-    bool is_there = file && strcmp(base_of(file), base_of(context->spot->file)) == 0;
+    bool is_there = file && strcmp(file_base(file), file_base(context->spot->file)) == 0;
     return is_there ? entry_line(function) : 0;
 }
 
@@ -112,11 +113,7 @@ char *function_at(struct debug_info *info, const struct spot_of_code *spot, long
 
 bool is_name_of_function(const char *told, const char *whole)
 {
-    const char *told_last = told, *last = whole;
-    for (const char *at = strstr(told, "::"); at; at = strstr(told_last, "::"))
-        told_last = at + 2;
-    for (const char *at = strstr(whole, "::"); at; at = strstr(last, "::"))
-        last = at + 2;
+    const char *told_last = last_part(told), *last = last_part(whole);
     /* What a template gives stands before its name, and what it was made for after the other one. */
     if (strncmp(told_last, "operator", 8) != 0 && strrchr(told_last, ' '))
         told_last = strrchr(told_last, ' ') + 1;
