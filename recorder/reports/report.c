@@ -200,6 +200,18 @@ unsigned long reports_circles(const struct reports *reports)
     return count;
 }
 
+bool reports_break(const struct reports *reports, const char *from, const char *into)
+{
+    for (size_t i = 0; i < reports->count; i++) {
+        const struct report *report = &reports->report[i];
+        for (size_t j = 0; report->kind == REPORT_REVERSAL && j < report->lines; j++)
+            if (report->line[j].kind == LINE_STEP && strcmp(report->line[j].type, from) == 0
+                && strcmp(report->line[j].other, into) == 0)
+                return true;
+    }
+    return false;
+}
+
 static void free_line(struct report_line *line)
 {
     free(line->text);
