@@ -6,14 +6,6 @@
 #include "allocation.h"
 #include "thread_label.h"
 
-static bool waits_for_itself(const struct notes *notes)
-{
-    for (size_t i = 0; i < notes->events; i++)
-        if (notes->event[i].kind == EVENT_AGAIN)
-            return true;
-    return false;
-}
-
 /* A line of the last report, of a seat and a lock, at a place of the notes or a site. The heading is let go. */
 static struct report_line *add_line(struct process *process, enum line_kind kind, unsigned seat, const char *lock,
     char *heading, size_t spot, const char *site)
@@ -160,7 +152,7 @@ static void add_again(struct process *process, size_t number)
 void add_circles(struct process *process)
 {
     const struct notes *notes = &process->notes;
-    if (!process->state.is_whole || (!notes->pending && !waits_for_itself(notes)))
+    if (!process->state.is_whole)
         return;
     if (notes->pending && process->state.circles > 0)
         add_seats(process, process->state.circle, process->state.circles);
