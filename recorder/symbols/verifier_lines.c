@@ -306,9 +306,11 @@ static void note_lock(struct verifier_lines *writing, struct event *event, const
         event->name = writing->notes->lock[number - 1].name;
 }
 
-static void note_again(struct verifier_lines *writing, const struct line *line)
+/* `again SEAT LOCK PLACE`, or `foreign ..`. */
+static void note_misuse(struct verifier_lines *writing, const struct line *line)
 {
-    struct event *event = new_event(writing, EVENT_AGAIN, line);
+    enum event_kind kind = field_is(line, 0, WORD_AGAIN) ? EVENT_AGAIN : EVENT_FOREIGN;
+    struct event *event = new_event(writing, kind, line);
     note_lock(writing, event, line, 2);
     event->site = site_of(writing->making->sites, place_in(line, 3));
 }
@@ -327,13 +329,6 @@ static void note_went(struct verifier_lines *writing, const struct line *line)
             return;
         }
     }
-}
-
-static void note_foreign(struct verifier_lines *writing, const struct line *line)
-{
-    struct event *event = new_event(writing, EVENT_FOREIGN, line);
-    note_lock(writing, event, line, 2);
-    event->site = site_of(writing->making->sites, place_in(line, 3));
 }
 
 /* `error WORD SEAT LOCK PLACE`. */
@@ -496,9 +491,9 @@ static const struct {
     {WORD_INIT, put_init},
     {WORD_TIME, note_time},
     {WORD_THREAD, note_thread},
-    {WORD_AGAIN, note_again},
+    {WORD_AGAIN, note_misuse},
     {WORD_WENT, note_went},
-    {WORD_FOREIGN, note_foreign},
+    {WORD_FOREIGN, note_misuse},
     {WORD_HOLDER, note_holder},
     {WORD_ANSWER, note_answer},
     {WORD_OWNER, note_owner},
