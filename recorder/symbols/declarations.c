@@ -238,7 +238,6 @@ static void read_type(struct declared *declared, const struct line *line)
     }
     struct type *type = type_at(declared, number);
     declared->has_news = true;
-    type->is_declared = true;
     type->has_variable = has_variable;
     type->variable = variable;
     type->is_met = field_is(line, 2, WORD_MET);
