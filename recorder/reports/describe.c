@@ -1,8 +1,6 @@
 #include "describe.h"
 
 #include <ctype.h>
-#include <stdio.h>
-#include <stdlib.h>
 #include <string.h>
 
 #include "allocation.h"

@@ -1,7 +1,5 @@
 #include "process_orders.h"
 
-#include <stdlib.h>
-
 #include "allocation.h"
 #include "show_run.h"
 

@@ -7,7 +7,6 @@
 #include "circle.h"
 #include "equal_reports.h"
 #include "error_words.h"
-#include "files.h"
 #include "findings_run.h"
 #include "follow.h"
 #include "grades.h"

@@ -3,11 +3,9 @@
 #include "debug_info.h"
 #include "declarations.h"
 #include "allocation.h"
-#include "sites.h"
 #include "source_lines.h"
 #include "source_text.h"
 
-#include <stdio.h>
 #include <stdlib.h>
 #include <string.h>
 

@@ -1,6 +1,5 @@
 #include "notes.h"
 
-#include "allocation.h"
 #include "texts.h"
 
 #include <stdlib.h>

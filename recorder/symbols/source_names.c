@@ -5,7 +5,6 @@
 
 #include <fnmatch.h>
 #include <string.h>
-#include <strings.h>
 
 enum { HASH_DIGITS = 16, WORD_MOST = 256 };
 

@@ -1,6 +1,5 @@
 #include "trace.h"
 
-#include "allocation.h"
 #include "format.h"
 #include "stream_locks.h"
 #include "place_words.h"

@@ -9,7 +9,6 @@
 #include "progress.h"
 #include "source_names.h"
 #include "texts.h"
-#include "type_names.h"
 
 #include <inttypes.h>
 #include <stdlib.h>
