@@ -1,5 +1,5 @@
 /*
- * Small things that end together: texts, and what is as short-lived as they.
+ * Small things that end together: texts, and what is as short-lived as they; and lists of texts.
  */
 #ifndef RECORD_TEXTS_H
 #define RECORD_TEXTS_H
