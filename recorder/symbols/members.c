@@ -8,6 +8,7 @@
 #include "expression_values.h"
 
 #include <ctype.h>
+#include <limits.h>
 #include <stdio.h>
 #include <stdlib.h>
 #include <string.h>
@@ -38,17 +39,16 @@ static bool select_own(const struct context *context, const char *name, struct v
     return false;
 }
 
+static bool is_called(const struct entry *entry, const void *name)
+{
+    struct entry type;
+    return entry_kind(entry) == ENTRY_FUNCTION && is_named(entry, name) && entry_type(entry, &type);
+}
+
 static bool find_called(const struct entry *around, const char *name, struct entry *type)
 {
-    struct entry at;
-    for (bool more = entry_first(around, &at); more; more = entry_next(&at, &at)) {
-        enum entry_kind kind = entry_kind(&at);
-        if (kind == ENTRY_FUNCTION && is_named(&at, name) && entry_type(&at, type))
-            return true;
-        if (kind == ENTRY_NAMESPACE && find_called(&at, name, type))
-            return true;
-    }
-    return false;
+    struct entry function;
+    return entry_find(around, is_called, name, ENTRY_NAMESPACE, UINT_MAX, &function) && entry_type(&function, type);
 }
 
 /* A name at the head of an expression. */
