@@ -6,23 +6,6 @@
 #include "allocation.h"
 #include "thread_label.h"
 
-static bool waits_for_itself(const struct notes *notes)
-{
-    for (size_t i = 0; i < notes->events; i++)
-        if (notes->event[i].kind == EVENT_AGAIN)
-            return true;
-    return false;
-}
-
-/* The thread that has the seat when so many events have come; NULL where none has had it. */
-static const struct event *thread_of(const struct notes *notes, unsigned seat, size_t events)
-{
-    for (size_t i = events; i > 0; i--)
-        if (notes->event[i - 1].kind == EVENT_THREAD && notes->event[i - 1].seat == seat)
-            return &notes->event[i - 1];
-    return NULL;
-}
-
 /* A line of the last report, of a seat and a lock, at a place of the notes or a site. The heading is let go. */
 static struct report_line *add_line(struct process *process, enum line_kind kind, unsigned seat, const char *lock,
     char *heading, size_t spot, const char *site)
@@ -109,9 +92,9 @@ static void add_wait(struct process *process, unsigned seat, unsigned next)
 {
     const struct notes *notes = &process->notes;
     const struct seat *waits = &process->state.seat[seat], *has = &process->state.seat[next];
-    const struct event *thread = thread_of(notes, seat, notes->events);
+    const struct event *thread = notes_thread(notes, seat, notes->events);
     const char *lock = notes_lock(notes, waits->asked)->name;
-    char *label = thread_label(thread), *name = thread_name(thread_of(notes, next, notes->events));
+    char *label = thread_label(thread), *name = thread_name(notes_thread(notes, next, notes->events));
     char *heading = say_text(" seat %u%s waits for \"%s\" %s seat %u%s", seat, label, lock,
         is_behind(waits, has) ? "behind a writer, who waits for" : "held by", next, name);
     struct report_line *line = add_line(process, LINE_WAITS, seat, lock, heading, waits->asked_at, NULL);
@@ -152,7 +135,7 @@ static void add_again(struct process *process, size_t number)
 {
     const struct notes *notes = &process->notes;
     const struct event *again = &notes->event[number];
-    const struct event *thread = thread_of(notes, again->seat, number);
+    const struct event *thread = notes_thread(notes, again->seat, number);
     const char *site = again->site ? again->site : "?:0";
     const char *lock = notes_lock(notes, again->lock)->name;
     if (again->seat > SEATS_MOST)
@@ -169,7 +152,7 @@ static void add_again(struct process *process, size_t number)
 void add_circles(struct process *process)
 {
     const struct notes *notes = &process->notes;
-    if (!process->state.is_whole || (!notes->pending && !waits_for_itself(notes)))
+    if (!process->state.is_whole)
         return;
     if (notes->pending && process->state.circles > 0)
         add_seats(process, process->state.circle, process->state.circles);

@@ -1,8 +1,6 @@
 #include "describe.h"
 
 #include <ctype.h>
-#include <stdio.h>
-#include <stdlib.h>
 #include <string.h>
 
 #include "allocation.h"
@@ -177,10 +175,7 @@ char *advice(const struct report *report, const struct alarm *alarm, size_t numb
 
 static size_t add_type(const char **type, size_t count, size_t room, const char *name)
 {
-    for (size_t i = 0; i < count; i++)
-        if (strcmp(type[i], name) == 0)
-            return count;
-    if (count < room && name && *name)
+    if (count < room && name && *name && !has_text(type, count, name))
         type[count++] = name;
     return count;
 }

@@ -2,7 +2,6 @@
 
 #include <stdlib.h>
 
-#include "brief_run.h"
 #include "json.h"
 #include "verdict.h"
 
@@ -47,5 +46,5 @@ char *document_report(const struct findings *findings, size_t *length)
 bool document_is_known(const char *witness, const char *form)
 {
     const char *words[] = {witness, form, NULL};
-    return brief_run(words, "", true) != BAD_USAGE;
+    return verdict_status(words, "", true) != BAD_USAGE;
 }

@@ -4,8 +4,9 @@
 #include <stdint.h>
 #include <string.h>
 
-/* What stands for bytes that aren't UTF-8. */
+/* What stands for bytes that aren't UTF-8, and as UTF-8. */
 enum { REPLACEMENT = 0xfffd };
+#define REPLACED "\xef\xbf\xbd"
 
 /* How many bytes a character has that begins with this one, and what that one gives to it; 0 where none begins so. */
 static size_t length_by_first(unsigned char byte, uint32_t *code)
@@ -52,20 +53,6 @@ static uint32_t first_character(const char *text, size_t length, size_t *bytes)
     return is_good ? code : REPLACEMENT;
 }
 
-static void put_character(FILE *to, uint32_t code)
-{
-    if (code < 0x80) {
-        fputc((int)code, to);
-    } else if (code < 0x800) {
-        fprintf(to, "%c%c", (int)(0xc0 | code >> 6), (int)(0x80 | (code & 0x3f)));
-    } else if (code < 0x10000) {
-        fprintf(to, "%c%c%c", (int)(0xe0 | code >> 12), (int)(0x80 | (code >> 6 & 0x3f)), (int)(0x80 | (code & 0x3f)));
-    } else {
-        fprintf(to, "%c%c%c%c", (int)(0xf0 | code >> 18), (int)(0x80 | (code >> 12 & 0x3f)),
-            (int)(0x80 | (code >> 6 & 0x3f)), (int)(0x80 | (code & 0x3f)));
-    }
-}
-
 void escape_json(FILE *to, const char *text)
 {
     size_t bytes;
@@ -75,7 +62,9 @@ void escape_json(FILE *to, const char *text)
             fprintf(to, "\\%c", (int)code);
         else if (code < 0x20 || (code >= 0x7f && code < 0xa0) || code == 0x2028 || code == 0x2029)
             fprintf(to, "\\u%04x", (unsigned)code);
+        else if (code == REPLACEMENT)
+            fputs(REPLACED, to);
         else
-            put_character(to, code);
+            fwrite(text, 1, bytes, to);
     }
 }

@@ -184,8 +184,7 @@ static void read_line(struct reading *reading, const struct value *finding)
 /* Whether what stands there is an order that isn't wanted: there may be many of them. */
 static bool is_passed(const struct state *state, const char *line)
 {
-    static const char order[] = "{\"finding\":\"order\"";
-    return state->lacks_orders && strncmp(line, order, sizeof order - 1) == 0;
+    return state->lacks_orders && IS_FINDING(line, "order");
 }
 
 void finding_lines_read(struct reports *reports, struct state *state, const char *told, size_t length)

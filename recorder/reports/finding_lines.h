@@ -7,6 +7,10 @@
 #include "report.h"
 #include "state.h"
 
+/* How a line of that kind begins; whether this one does, up to a zero. */
+#define FINDING(kind) "{\"finding\":\"" kind "\""
+#define IS_FINDING(line, kind) (strncmp((line), FINDING(kind), sizeof FINDING(kind) - 1) == 0)
+
 /*
  * Adds what the lines say. Their places are numbers of spots of the reports' notes, which have their locks, too. Lines
  * that are none of it say nothing.

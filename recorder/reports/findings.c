@@ -69,10 +69,7 @@ static uint64_t mix_type(uint64_t hash, const struct notes *notes, const char *t
 /* A lock that has another name than its type has a number in it, or is one of several in a variable. */
 static uint64_t mix_lock(uint64_t hash, const struct notes *notes, const char *name)
 {
-    for (size_t i = 0; i < notes->locks; i++)
-        if (strcmp(notes->lock[i].name, name) == 0)
-            return mix_type(hash, notes, notes->lock[i].type);
-    return mix_type(hash, notes, name);
+    return mix_type(hash, notes, notes_lock_type(notes, name));
 }
 
 /* What the line gives to a fingerprint, 0 where that is nothing: its lock and the innermost function. */

@@ -4,6 +4,7 @@
 #include <stdlib.h>
 #include <string.h>
 
+#include "finding_lines.h"
 #include "format.h"
 #include "schedules.h"
 
@@ -44,13 +45,12 @@ static bool is_wanted(const struct grades_wanted *wanted, const char *kind, cons
 /* The reports of that text of which grades are asked for. */
 static struct asked *asked_of(const struct grades_wanted *wanted, const char *told, const char *end, size_t *count)
 {
-    static const char head[] = "{\"finding\":\"report\"";
     struct texts *texts = texts_new();
     struct asked *asked = NULL;
     size_t room = 0;
     const char *after;
     for (; told < end && (after = memchr(told, '\n', (size_t)(end - told))) != NULL; told = after + 1) {
-        if (strncmp(told, head, sizeof head - 1) != 0)
+        if (!IS_FINDING(told, "report"))
             continue;
         const struct value *report = json_read(texts_copy(texts, told, (size_t)(after - told)), texts);
         const char *type = words_of(value_of(report, "asked"), "type");
@@ -108,10 +108,7 @@ static bool is_reports_own(const struct notes *notes, const struct report *repor
 static void add_place(struct alarm *alarm, const struct single *single, const struct value *does)
 {
     const char *site = single_site(single, (uint32_t)number_of(does, "place"));
-    size_t at = 0;
-    while (site && at < alarm->elsewheres && strcmp(alarm->elsewhere[at], site) != 0)
-        at++;
-    if (site && at == alarm->elsewheres && at < ALARM_THREADS)
+    if (site && alarm->elsewheres < ALARM_THREADS && !has_text(alarm->elsewhere, alarm->elsewheres, site))
         alarm->elsewhere[alarm->elsewheres++] = site;
 }
 

@@ -10,26 +10,17 @@
 
 enum { VERSION = 1, TYPES_SHOWN = 64 };
 
-/* Null of 0. */
-static void write_number(struct objects *to, const char *name, long number)
-{
-    if (number)
-        object_number(to, name, number);
-    else
-        object_text(to, name, NULL);
-}
-
 /* Where the first lock of a step was taken; null where that isn't known. */
 static void write_taken(struct objects *to, const struct notes *notes, size_t number)
 {
-    const struct spot *spot = number > 0 && number <= notes->spots ? &notes->spot[number - 1] : NULL;
+    const struct spot *spot = notes_spot(notes, number);
     if (!spot) {
         object_text(to, "taken", NULL);
         return;
     }
     object_open(to, "taken", '{');
     json_site(to, spot->site);
-    json_calls(to, spot->frames > 0 && spot->frames <= notes->framed ? &notes->frames[spot->frames - 1] : NULL);
+    json_calls(to, notes_frames(notes, number));
     object_close(to, '{');
 }
 
@@ -102,10 +93,7 @@ static void write_waits(struct objects *to, const struct report *report)
         object_number(to, "seat", line->seat);
         object_text(to, "does", line->kind == LINE_WAITS ? "waits" : "holds");
         object_text(to, "lock", line->name);
-        if (line->kind == LINE_WAITS && line->next > 0)
-            object_number(to, "holder", line->next);
-        else
-            object_text(to, "holder", NULL);
+        object_known(to, "holder", line->kind == LINE_WAITS ? line->next : 0);
         json_where(to, line);
         object_close(to, '{');
     }
@@ -168,8 +156,8 @@ static void write_row(struct objects *to, const struct schedule_row *row)
     static const char *const does[] = {[ROW_GETS] = "gets", [ROW_LETS_GO] = "lets go", [ROW_WAITS] = "waits"};
     object_open(to, NULL, '{');
     object_number(to, "column", (long long)row->column);
-    write_number(to, "thread", row->thread);
-    write_number(to, "like", row->like);
+    object_known(to, "thread", row->thread);
+    object_known(to, "like", row->like);
     object_text(to, "does", does[row->does]);
     object_text(to, "lock", row->lock);
     object_text(to, "mode", row->shared ? "shared" : "exclusive");
@@ -234,10 +222,7 @@ static void write_confirmed(struct objects *to, const struct confirmed *confirme
     }
     object_open(to, "confirmed", '{');
     object_number(to, "runs", confirmed->runs);
-    if (confirmed->run)
-        object_number(to, "run", confirmed->run);
-    else
-        object_text(to, "run", NULL);
+    object_known(to, "run", confirmed->run);
     object_seconds(to, "seconds", confirmed->run ? confirmed->hang.seconds : 0);
     object_open(to, "waits", '[');
     for (size_t i = 0; confirmed->run && i < confirmed->hang.threads; i++) {

@@ -46,10 +46,7 @@ void json_site(struct objects *to, const char *site)
     char *file = is_place && place.line > 0 ? copy_bytes(place.file, place.length) : NULL;
     json_trace_site(to, "site", site);
     object_text(to, "file", file);
-    if (file)
-        object_number(to, "line", place.line);
-    else
-        object_text(to, "line", NULL);
+    object_known(to, "line", file ? place.line : 0);
     free(file);
     if (site) {
         write_name(to, site);

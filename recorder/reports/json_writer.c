@@ -53,6 +53,14 @@ void object_number(struct objects *objects, const char *name, long long number)
     fprintf(objects->to, "%lld", number);
 }
 
+void object_known(struct objects *objects, const char *name, long long number)
+{
+    if (number)
+        object_number(objects, name, number);
+    else
+        object_text(objects, name, NULL);
+}
+
 void object_seconds(struct objects *objects, const char *name, double seconds)
 {
     begin_value(objects, name);

@@ -18,6 +18,7 @@ void object_open(struct objects *objects, const char *name, char bracket);
 void object_close(struct objects *objects, char bracket);                      /* by the bracket that opened it */
 void object_text(struct objects *objects, const char *name, const char *text); /* null where that is NULL */
 void object_number(struct objects *objects, const char *name, long long number);
+void object_known(struct objects *objects, const char *name, long long number); /* null where that is 0 */
 void object_seconds(struct objects *objects, const char *name, double seconds); /* to the thousandth */
 void object_truth(struct objects *objects, const char *name, bool truth);
 

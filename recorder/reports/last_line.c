@@ -1,4 +1,3 @@
-#include <stdio.h>
 #include <stdlib.h>
 #include <string.h>
 #include <unistd.h>
@@ -15,12 +14,6 @@ enum { TIMEOUT_STATUS = 124, BY_SIGNAL = 128, CONTRADICTED = 1 };
 static const char clean[] =
     "clean: no order of these threads' steps can make them wait for one another in a circle, for the locks that were seen "
     "(docs/PROOFS.md)";
-
-/* So many of them, as a text of one's own. */
-static char *counted(unsigned long number, const char *what, const char *many)
-{
-    return say_text("%lu %s%s", number, what, number == 1 ? "" : many);
-}
 
 /* How the program ended, where that may have kept it from doing more; else an empty text. */
 static char *end_of_program(const struct run *run)
@@ -39,7 +32,7 @@ static char *ignored_by(const struct run *run)
 {
     if (run->ignored == 0)
         return copy("");
-    char *reports = counted(run->ignored, "report", "s");
+    char *reports = say_count(run->ignored, "report", "s");
     char *text = say_text(": %s ignores %s", run->settings.ignore, reports);
     free(reports);
     return text;
@@ -99,8 +92,8 @@ static char *not_seen(const struct run *run)
 
 static void tell_reported(struct run *run, const char *so_far, const char *end)
 {
-    char *reports = counted(run->reports, "report", "s"), *circles = counted(run->circles, "circle", "s");
-    char *processes = counted(run->shown, "process", "es"), *errors = counted(run->errors, "error", "s");
+    char *reports = say_count(run->reports, "report", "s"), *circles = say_count(run->circles, "circle", "s");
+    char *processes = say_count(run->shown, "process", "es"), *errors = say_count(run->errors, "error", "s");
     char *confirmed = confirm_is_wanted(&run->settings) ? say_text(", %lu confirmed", run->confirmed) : copy("");
     char *known = known_orders(run, ", ");
     if (*end)
@@ -120,7 +113,7 @@ static void tell_reported(struct run *run, const char *so_far, const char *end)
 /* Errors in the use of locks, where nothing else is reported; else an empty text. */
 static char *but_errors(const struct run *run)
 {
-    char *errors = counted(run->errors, "error", "s");
+    char *errors = say_count(run->errors, "error", "s");
     char *text = run->errors ? say_text(" but %s", errors) : copy("");
     free(errors);
     return text;

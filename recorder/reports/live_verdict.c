@@ -3,9 +3,9 @@
 #include <stdlib.h>
 #include <string.h>
 
-enum { BUFFER_BYTES = 1 << 16 };
+#include "finding_lines.h"
 
-static const char order[] = "{\"finding\":\"order\"";
+enum { BUFFER_BYTES = 1 << 16 };
 
 static ssize_t feed(void *cookie, const char *bytes, size_t length)
 {
@@ -51,11 +51,9 @@ enum resolved going_reads(struct live_verdict *going, struct resolver *resolver,
 /* Where the line is kept; NULL where it tells of a moment, or isn't wanted. */
 static struct text *place_of(struct live_verdict *going, const char *line, bool wants_orders)
 {
-    static const char *const lasting[] = {"{\"finding\":\"report\"", "{\"finding\":\"bad\""};
-    for (size_t i = 0; i < sizeof lasting / sizeof *lasting; i++)
-        if (strncmp(line, lasting[i], strlen(lasting[i])) == 0)
-            return &going->kept;
-    return wants_orders && strncmp(line, order, sizeof order - 1) == 0 ? &going->orders : NULL;
+    if (IS_FINDING(line, "report") || IS_FINDING(line, "bad"))
+        return &going->kept;
+    return wants_orders && IS_FINDING(line, "order") ? &going->orders : NULL;
 }
 
 /* Keeps of what was told last, up to so far, what is so from then on. */

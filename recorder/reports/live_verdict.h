@@ -6,7 +6,7 @@
 #define RECORD_LIVE_VERDICT_H
 
 #include "resolve.h"
-#include "verifier.h"
+#include "verifier_process.h"
 
 /* A new struct is all zeroes. */
 struct live_verdict {

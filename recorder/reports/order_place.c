@@ -12,8 +12,7 @@
 static void put_place(FILE *to, const struct notes *notes, size_t number, bool with_line)
 {
     struct place place;
-    const struct spot *spot = notes_spot(notes, number);
-    const struct frames *frames = spot && spot->frames > 0 ? &notes->frames[spot->frames - 1] : NULL;
+    const struct frames *frames = notes_frames(notes, number);
     const char *function = frames && frames->count > 0 ? frames->frame[0].function : NULL;
     const char *site = notes_site(notes, number);
     bool is_line = place_read(&place, site) && place.line > 0;

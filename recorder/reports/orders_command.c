@@ -5,9 +5,7 @@
 #include <stdio.h>
 #include <stdlib.h>
 #include <string.h>
-#include <unistd.h>
 
-#include "files.h"
 #include "allocation.h"
 #include "orders_asked.h"
 #include "orders_file.h"
@@ -132,11 +130,6 @@ static int merge(const char *witness, char **words)
     return status_of_output(0);
 }
 
-static char *counted(unsigned long number, const char *what, const char *many)
-{
-    return say_text("%lu %s%s", number, what, number == 1 ? "" : many);
-}
-
 static size_t count_blessed(const struct learnt *learnt)
 {
     size_t blessed = 0;
@@ -163,8 +156,8 @@ static char *verdict_of(const struct learnt *learnt, const struct judgement *jud
 static char *summary_of(const struct learnt *learnt, const struct judgement *judgement)
 {
     char *verdict = verdict_of(learnt, judgement);
-    char *orders = counted(learnt->orders, "order", "s"), *types = counted(learnt->types.count, "type", "s");
-    char *runs = counted(learnt->runs, "run", "s");
+    char *orders = say_count(learnt->orders, "order", "s"), *types = say_count(learnt->types.count, "type", "s");
+    char *runs = say_count(learnt->runs, "run", "s");
     char *summary = say_text("%s: %s, %s, %s", verdict, orders, types, runs);
     free(verdict);
     free(orders);

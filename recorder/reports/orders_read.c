@@ -1,23 +1,7 @@
 #include "process_orders.h"
 
-#include <stdlib.h>
-#include <string.h>
-
 #include "allocation.h"
 #include "show_run.h"
-
-/* Whether the order is one that a reversal breaks. */
-static bool is_broken(const struct reports *reports, const char *from, const char *into)
-{
-    for (size_t i = 0; i < reports->count; i++) {
-        const struct report *report = &reports->report[i];
-        for (size_t j = 0; report->kind == REPORT_REVERSAL && j < report->lines; j++)
-            if (report->line[j].kind == LINE_STEP && strcmp(report->line[j].type, from) == 0
-                && strcmp(report->line[j].other, into) == 0)
-                return true;
-    }
-    return false;
-}
 
 /* An order that was adopted. */
 static void add_adopted(struct order_list *orders, const struct process *process, const struct known_order *known)
@@ -26,7 +10,7 @@ static void add_adopted(struct order_list *orders, const struct process *process
         .from = copy(known->from),
         .to = copy(known->into),
         .site = copy(notes_site(&process->notes, known->spot)),
-        .is_broken = is_broken(&process->reports, known->from, known->into),
+        .is_broken = reports_break(&process->reports, known->from, known->into),
     };
 }
 

@@ -136,14 +136,13 @@ static char *ask_going(struct process *process, struct live_verdict *going, size
 /* Beside a trial, what was built of earlier sources is asked for the grades, where that is there. */
 static void ask_grader(struct process *process)
 {
-    static const char grade[] = "{\"finding\":\"grade\"";
     const struct settings *settings = &process->run->settings;
     struct process again = *process;
     size_t length = 0;
     if (!settings->grader || !is_trial(settings, settings->witness))
         return;
     char *told = ask(&again, settings->grader, &length),
-         *from = told ? memmem(told, length, grade, sizeof grade - 1) : NULL;
+         *from = told ? memmem(told, length, FINDING("grade"), sizeof FINDING("grade") - 1) : NULL;
     if (from)
         finding_lines_read(&process->reports, &process->state, from, length - (size_t)(from - told));
     notes_end(&again.notes);

@@ -3,6 +3,8 @@
 #include <stdlib.h>
 #include <string.h>
 
+#include "finding_lines.h"
+
 /* The shared one keeps what it knows of each process to its end: after so many another one is begun. */
 enum { SHORT_BYTES = 1 << 20, ANSWERS_BYTES = 1 << 26, DEATH = 126, PROCESSES_MOST = 64 };
 
@@ -62,12 +64,11 @@ static const struct answer *known(const struct answers *answers, const struct te
  */
 static void keep(struct replaying *replaying, int status)
 {
-    static const char report[] = "{\"finding\":\"report\"";
     struct answers *answers = replaying->answers;
     const struct text *told = &replaying->told;
     size_t bytes = replaying->lines.length + told->length;
     if (status >= DEATH || bytes > ANSWERS_BYTES - answers->bytes || told->length == 0
-        || memmem(told->bytes, told->length, report, sizeof report - 1))
+        || memmem(told->bytes, told->length, FINDING("report"), sizeof FINDING("report") - 1))
         return;
     struct answer *answer = &ADD(answers->answer, answers->count, answers->room);
     *answer = (struct answer){.lines = replaying->lines, .status = status};

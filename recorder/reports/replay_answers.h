@@ -9,7 +9,7 @@
 #include <stdbool.h>
 #include <stddef.h>
 
-#include "verifier.h"
+#include "verifier_process.h"
 
 /* What it told of some lines. */
 struct answer {

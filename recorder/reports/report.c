@@ -35,19 +35,13 @@ static void add_spot(struct report_line *line, const struct notes *notes, size_t
     line->at = spot->at;
     line->thread = spot->thread;
     line->known = known_of(notes, spot->thread);
-    if (spot->frames > 0 && spot->frames <= notes->framed)
-        line->frames = &notes->frames[spot->frames - 1];
+    line->frames = notes_frames(notes, number);
 }
 
 char *lock_told_at(const struct notes *notes, const char *name, const char *site)
 {
     struct code_words code;
-    const char *type = name;
-    bool is_code = code_words_read(&code, site);
-    for (size_t i = 0; is_code && i < notes->locks; i++)
-        if (strcmp(notes->lock[i].name, name) == 0)
-            type = notes->lock[i].type;
-    return lock_told(name, type);
+    return lock_told(name, code_words_read(&code, site) ? notes_lock_type(notes, name) : name);
 }
 
 /* Of a line of a circle, or of an error, whose heading are its words. */
@@ -204,6 +198,18 @@ unsigned long reports_circles(const struct reports *reports)
     for (size_t i = 0; i < reports->count; i++)
         count += reports->report[i].kind == REPORT_CIRCLE || reports->report[i].kind == REPORT_SELF;
     return count;
+}
+
+bool reports_break(const struct reports *reports, const char *from, const char *into)
+{
+    for (size_t i = 0; i < reports->count; i++) {
+        const struct report *report = &reports->report[i];
+        for (size_t j = 0; report->kind == REPORT_REVERSAL && j < report->lines; j++)
+            if (report->line[j].kind == LINE_STEP && strcmp(report->line[j].type, from) == 0
+                && strcmp(report->line[j].other, into) == 0)
+                return true;
+    }
+    return false;
 }
 
 static void free_line(struct report_line *line)

@@ -86,6 +86,9 @@ void report_names_ignore_line(struct report *report, const struct notes *notes);
 unsigned long reports_counted(const struct reports *reports);
 unsigned long reports_circles(const struct reports *reports);
 
+/* Whether a reversal goes against the order from type to type. */
+bool reports_break(const struct reports *reports, const char *from, const char *into);
+
 void reports_end(struct reports *reports);
 
 /* Its lines as they are told, as a text of one's own. */

@@ -1,7 +1,6 @@
 #include "report_text.h"
 
 #include <stdlib.h>
-#include <string.h>
 
 #include "allocation.h"
 #include "place_words.h"

@@ -21,18 +21,6 @@ void drawing_check(const struct drawing *drawing)
     prepare_files(&settings);
 }
 
-/* Whether a report goes against the order from type to type. */
-static bool is_broken(const struct reports *reports, const char *from, const char *to)
-{
-    for (size_t i = 0; i < reports->count; i++)
-        for (size_t j = 0; j < reports->report[i].lines; j++) {
-            const struct report_line *line = &reports->report[i].line[j];
-            if (line->kind == LINE_STEP && strcmp(line->type, from) == 0 && strcmp(line->other, to) == 0)
-                return true;
-        }
-    return false;
-}
-
 /* Where its second type was asked for. */
 static char *site_of(const struct learnt_order *order)
 {
@@ -52,7 +40,7 @@ static void add_orders(struct order_list *orders, const struct learnt *learnt, c
             .to = copy(to),
             .site = site_of(order),
             .is_reversal = order->is_against,
-            .is_broken = !order->is_against && is_broken(reports, from, to),
+            .is_broken = !order->is_against && reports_break(reports, from, to),
         };
     }
 }

@@ -18,7 +18,6 @@
 #include "learn.h"
 #include "allocation.h"
 #include "output_files.h"
-#include "replay.h"
 #include "show_run.h"
 #include "survivors.h"
 #include "tell_process.h"

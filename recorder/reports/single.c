@@ -8,7 +8,6 @@
 /* What a line tells of a pair, and of itself. */
 struct told {
     struct single_pair pair;
-    bool is_tried;   /* the held lock was */
     bool has_errand; /* the last one is its thread's */
 };
 
@@ -17,7 +16,6 @@ static void read_letter(char letter, struct told *told)
     struct single_pair *pair = &told->pair;
     pair->under |= letter == 'u';
     pair->is_further |= letter == 'm';
-    told->is_tried |= letter == ERRAND_TRIED;
     told->has_errand |= letter == *PAIR_HAS_ERRAND;
     if (letter == 'l')
         pair->how = SINGLE_FOR_A_TIME;
@@ -86,8 +84,7 @@ static void add_plain_errand(struct single *single, const struct told *told, lon
     ADD(single->step, single->steps, single->step_room) = (struct single_step){.serial = told->pair.held.serial,
         .place = place,
         .gets = true,
-        .shared = told->pair.held.shared,
-        .tried = told->is_tried};
+        .shared = told->pair.held.shared};
 }
 
 /* TOOK: where the held lock was acquired. Where the errand isn't there, nothing is known of the way. */
@@ -133,14 +130,14 @@ static bool read_number(const char **at, const char *end, uint32_t *number)
     return read <= UINT32_MAX && (from == end || *from == ' ');
 }
 
-/* A lock that was got, which its mode begins, or that was let go. */
+/* A lock that was got, which its mode begins, or that was let go. That it was tried is passed over. */
 static bool read_step(const char **at, const char *end, struct single_step *step)
 {
     const char *how = *at + 1;
     if (end - *at < 2 || **at != ' ' || !strchr("sx" ERRAND_LETS_GO, *how))
         return false;
-    *step = (struct single_step){.gets = *how != *ERRAND_LETS_GO, .shared = *how == 's', .tried = how[1] == ERRAND_TRIED};
-    *at = how + 1 + step->tried;
+    *step = (struct single_step){.gets = *how != *ERRAND_LETS_GO, .shared = *how == 's'};
+    *at = how + 1 + (how[1] == ERRAND_TRIED);
     return read_number(at, end, &step->serial) && (!step->gets || read_number(at, end, &step->place));
 }
 

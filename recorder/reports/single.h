@@ -24,7 +24,7 @@ struct single_lock {
 /* A lock that a thread got, or let go. */
 struct single_step {
     uint32_t serial, place; /* the place is 0 of one that it let go */
-    bool gets, shared, tried;
+    bool gets, shared;
 };
 
 /* What a thread got and let go since it last had nothing (recorder/runtime/errand.h). */

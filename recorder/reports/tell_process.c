@@ -7,7 +7,6 @@
 #include "circle.h"
 #include "equal_reports.h"
 #include "error_words.h"
-#include "files.h"
 #include "findings_run.h"
 #include "follow.h"
 #include "grades.h"
@@ -282,20 +281,12 @@ static void keep_for_later(struct process *process)
         if (at == run->matches)
             ADD(run->matched, run->matches, run->matched_room) = notes->matched[i];
     }
-    for (size_t i = 0; i < notes->libraries; i++) {
-        size_t at = 0;
-        while (at < run->libraries && strcmp(run->library[at], notes->library[i]) != 0)
-            at++;
-        if (at == run->libraries)
+    for (size_t i = 0; i < notes->libraries; i++)
+        if (!has_text(run->library, run->libraries, notes->library[i]))
             ADD(run->library, run->libraries, run->library_room) = copy(notes->library[i]);
-    }
-    for (size_t i = 0; i < notes->blinds; i++) {
-        size_t at = 0;
-        while (at < run->blinds && strcmp(run->blind[at], notes->blind[i]) != 0)
-            at++;
-        if (at == run->blinds)
+    for (size_t i = 0; i < notes->blinds; i++)
+        if (!has_text(run->blind, run->blinds, notes->blind[i]))
             ADD(run->blind, run->blinds, run->blind_room) = copy(notes->blind[i]);
-    }
 }
 
 static void keep_trace(struct process *process)

@@ -22,16 +22,17 @@ enum {
 
 extern char **environ;
 
-/* Its standard input and output are these files. This process ignores the loss of a reader, its children don't. */
+/* Its standard input and output are these files. What this process ignores on its own behalf is as ever for it. */
 static void spawn(struct verdict *verdict, const char *const *words, int in, int out, bool quiet)
 {
     posix_spawn_file_actions_t files;
     posix_spawnattr_t how;
-    sigset_t broken;
-    sigemptyset(&broken);
-    sigaddset(&broken, SIGPIPE);
+    sigset_t as_ever;
+    sigemptyset(&as_ever);
+    sigaddset(&as_ever, SIGPIPE);
+    sigaddset(&as_ever, SIGXFSZ);
     posix_spawnattr_init(&how);
-    posix_spawnattr_setsigdefault(&how, &broken);
+    posix_spawnattr_setsigdefault(&how, &as_ever);
     posix_spawnattr_setflags(&how, POSIX_SPAWN_SETSIGDEF);
     posix_spawn_file_actions_init(&files);
     posix_spawn_file_actions_adddup2(&files, in, STDIN_FILENO);
@@ -103,9 +104,9 @@ static void take_output(struct verdict *verdict)
     char bytes[READ_BYTES];
     ssize_t length = read(verdict->out, bytes, sizeof bytes);
     verdict->had_little = length < LITTLE_BYTES;
-    if (length > 0)
+    if (length > 0 && verdict->told)
         fwrite(bytes, 1, (size_t)length, verdict->told);
-    else if (length == 0 || errno != EINTR)
+    else if (length == 0 || (length < 0 && errno != EINTR))
         close_file(&verdict->out);
 }
 
@@ -209,4 +210,21 @@ int verdict_on(const char *witness, const char *word, const char *trace, FILE *t
     begin(&verdict, (const char *const[]){witness, word, NULL}, file, true, told);
     close(file);
     return verdict_end(&verdict);
+}
+
+int verdict_status(const char *const *words, const char *text, bool quiet)
+{
+    struct verdict verdict;
+    int ends[2], status = 126;
+    if (pipe2(ends, O_CLOEXEC) != 0)
+        return status;
+    /* It stands in the pipe before anybody reads: one that doesn't read is none that harms. */
+    bool is_there = write(ends[1], text, strlen(text)) == (ssize_t)strlen(text);
+    close(ends[1]);
+    if (is_there) {
+        begin(&verdict, words, ends[0], quiet, NULL);
+        status = verdict_end(&verdict);
+    }
+    close(ends[0]);
+    return status;
 }

@@ -10,7 +10,7 @@
 #include <sys/types.h>
 
 struct verdict {
-    FILE *told;      /* where its output goes, as it comes */
+    FILE *told;      /* where its output goes, as it comes; NULL where nobody wants it */
     pid_t process;   /* 0 where it wasn't begun */
     int status;      /* where it wasn't begun: why, as a shell says it */
     int in, out;     /* -1 where closed */
@@ -44,5 +44,11 @@ char *verdict_on_text(const char *witness, const char *word, const char *text, s
 
 /* All of it, on the trace in a file; it complains to nobody. */
 int verdict_on(const char *witness, const char *word, const char *trace, FILE *told);
+
+/*
+ * Runs a program to its end on a text, which a pipe has room for, and without its output; quiet, without its standard error too. Its
+ * status, as a shell says it.
+ */
+int verdict_status(const char *const *words, const char *text, bool quiet);
 
 #endif

@@ -5,7 +5,6 @@
 #include <string.h>
 
 #include "libdw.h"
-#include "allocation.h"
 #include "missed_calls.h"
 
 static const char little_room[] = "a full disk, or a limit on the size of files";

@@ -50,6 +50,11 @@ char *say_text(const char *format, ...)
     return there(length < 0 ? NULL : text);
 }
 
+char *say_count(unsigned long number, const char *what, const char *many)
+{
+    return say_text("%lu %s%s", number, what, number == 1 ? "" : many);
+}
+
 void text_add(struct text *text, const char *bytes, size_t length)
 {
     if (text->length + length + 1 > text->room) {

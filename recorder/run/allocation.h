@@ -12,6 +12,8 @@ char *copy(const char *text);                     /* a text of one's own */
 char *copy_bytes(const char *bytes, size_t length);
 /* As sprintf, into a text of one's own. */
 char *say_text(const char *format, ...) __attribute__((format(printf, 1, 2)));
+/* `1 report`, or `2 reports`: so many of them, into a text of one's own. */
+char *say_count(unsigned long number, const char *what, const char *many);
 
 /* A text that grows; all zeroes is an empty one. After what was added stands a zero. */
 struct text {

@@ -41,19 +41,11 @@ static double seconds_now(void)
     return (double)now.tv_sec + (double)now.tv_nsec / 1e9;
 }
 
-static bool has_type(const struct subject *subject, const char *type)
-{
-    for (size_t i = 0; i < subject->types; i++)
-        if (strcmp(subject->type[i], type) == 0)
-            return true;
-    return false;
-}
-
 /* Whether all that hangs are locks of the report's types. */
 static bool is_of(const struct hang *hang, const struct subject *subject)
 {
     for (size_t i = 0; i < hang->threads; i++)
-        if (!has_type(subject, hang->thread[i].type))
+        if (!has_text(subject->type, subject->types, hang->thread[i].type))
             return false;
     return hang->threads > 0;
 }

@@ -49,17 +49,27 @@ static void widen(struct map *map)
     *map = wide;
 }
 
-size_t *map_add(struct map *map, const void *key, size_t length)
+static struct map_slot *add(struct map *map, const void *key, size_t length)
 {
     uint64_t hash = hash_of(key, length);
     if (map->room < 2 * (map->count + 1))
         widen(map);
     struct map_slot *slot = slot_of(map, key, length, hash);
     if (!slot->key) {
-        *slot = (struct map_slot){copy_bytes(key, length), length, 0, hash};
+        *slot = (struct map_slot){.key = copy_bytes(key, length), .length = length, .hash = hash};
         map->count++;
     }
-    return &slot->value;
+    return slot;
+}
+
+size_t *map_add(struct map *map, const void *key, size_t length)
+{
+    return &add(map, key, length)->value;
+}
+
+const void **map_thing(struct map *map, const void *key, size_t length)
+{
+    return &add(map, key, length)->thing;
 }
 
 size_t *map_add_text(struct map *map, const char *key)

@@ -4,12 +4,12 @@
 #include <stdlib.h>
 #include <string.h>
 
-#include "brief_run.h"
 #include "document.h"
 #include "files.h"
 #include "allocation.h"
 #include "show_run.h"
 #include "usage.h"
+#include "verdict.h"
 
 enum { BAD_USAGE = 2, NOT_RUN = 126 }; /* the least status of what a shell couldn't run */
 
@@ -32,7 +32,7 @@ static bool stands_built(const char *top)
 {
     char *build = say_text("%s/tools/build", top);
     const char *words[] = {build, "--is-current", NULL};
-    bool is = brief_run(words, "", false) == 0;
+    bool is = verdict_status(words, "", false) == 0;
     free(build);
     return is;
 }
@@ -81,7 +81,7 @@ static bool knows(const char *witness, const char *word, const char *line)
 {
     const char *words[] = {witness, word, NULL};
     char *trace = say_text("witness-trace 1 seats 1 types 1 locks 1 chunks 1\n%s", line);
-    int status = brief_run(words, trace, true);
+    int status = verdict_status(words, trace, true);
     free(trace);
     return status == 0;
 }
@@ -96,7 +96,7 @@ void replayer_check(struct settings *settings)
         return;
     }
     witness = *words = settings->witness;
-    int status = brief_run(words, "process 1\n", false);
+    int status = verdict_status(words, "process 1\n", false);
     if (status >= NOT_RUN)
         fail("%s can't be run: nothing was run", witness);
     if (status == BAD_USAGE)

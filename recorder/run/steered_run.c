@@ -25,10 +25,8 @@ enum { LOOK = 10000000, UNPROVED = 1000000, CHILDREN_MOST = 256 };
 /* The kernel's number of the thread that has the seat by now. */
 static long thread_of(const struct notes *notes, unsigned seat)
 {
-    for (size_t i = notes->events; i > 0; i--)
-        if (notes->event[i - 1].kind == EVENT_THREAD && notes->event[i - 1].seat == seat)
-            return notes->event[i - 1].thread;
-    return 0;
+    const struct event *thread = notes_thread(notes, seat, notes->events);
+    return thread ? thread->thread : 0;
 }
 
 /* Whom the lock names that the seat waits for; 0 where it names nobody. */
@@ -57,14 +55,6 @@ static bool is_certain(const struct process *process, const struct report_line *
     return waits->next > 0 && holder > 0 && owner_for(&process->notes, waits) == holder;
 }
 
-static char *type_of(const struct notes *notes, const char *lock)
-{
-    for (size_t i = 0; i < notes->locks; i++)
-        if (strcmp(notes->lock[i].name, lock) == 0)
-            return copy(notes->lock[i].type);
-    return copy(lock);
-}
-
 /* What the seat holds that another one of the circle waits for; NULL where that isn't known. */
 static const struct report_line *taken_by(const struct report *report, unsigned seat)
 {
@@ -90,7 +80,7 @@ static void add_thread(struct hang *hang, const struct process *process, const s
         .took_at = took ? copy(took->site) : NULL,
         .wants = copy(waits->name),
         .wants_at = copy(waits->site),
-        .type = type_of(&process->notes, waits->name),
+        .type = copy(notes_lock_type(&process->notes, waits->name)),
     };
     hang->is_certain &= is_certain(process, waits);
 }

@@ -118,13 +118,13 @@ void planned_adds(struct planned *planned, const struct planned_place *hold, con
 static struct planned_place place_of_spot(const struct notes *notes, size_t number, const char *type)
 {
     struct planned_place place = {.lock = notes_variable(notes, type)};
-    const struct spot *spot = number > 0 && number <= notes->spots ? &notes->spot[number - 1] : NULL;
+    const struct spot *spot = notes_spot(notes, number);
+    const struct frames *frames = notes_frames(notes, number);
     if (!spot)
         return place;
     place.site = spot->site;
     place.at = spot->at;
-    if (spot->frames > 0 && spot->frames <= notes->framed) {
-        const struct frames *frames = &notes->frames[spot->frames - 1];
+    if (frames) {
         place.calls = frames->calls;
         memcpy(place.call, frames->call, sizeof place.call);
     }

@@ -1,5 +1,6 @@
 #include "stream_file.h"
 
+#include "files.h"
 #include "format.h"
 #include "line.h"
 #include "allocation.h"
@@ -81,7 +82,7 @@ static char *program_in(const struct stream *stream)
 static long process_of(const char *path)
 {
     char *end;
-    const char *name = base_of(path);
+    const char *name = file_base(path);
     long number = *name >= '0' && *name <= '9' ? strtol(name, &end, 10) : 0;
     return number > 0 && number < INT_MAX ? number : 0;
 }

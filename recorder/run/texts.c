@@ -71,3 +71,11 @@ const char *texts_say(struct texts *texts, const char *format, ...)
     va_end(words);
     return text;
 }
+
+bool has_text(const char *const *list, size_t count, const char *text)
+{
+    size_t at = 0;
+    while (at < count && strcmp(list[at], text) != 0)
+        at++;
+    return at < count;
+}

@@ -1,9 +1,10 @@
 /*
- * Small things that end together: texts, and what is as short-lived as they.
+ * Small things that end together: texts, and what is as short-lived as they; and lists of texts.
  */
 #ifndef RECORD_TEXTS_H
 #define RECORD_TEXTS_H
 
+#include <stdbool.h>
 #include <stddef.h>
 
 struct texts;
@@ -16,5 +17,8 @@ void *texts_room(struct texts *texts, size_t bytes);
 /* The bytes as a text. */
 const char *texts_copy(struct texts *texts, const char *bytes, size_t length);
 const char *texts_say(struct texts *texts, const char *format, ...) __attribute__((format(printf, 2, 3)));
+
+/* Whether that text is in the list. */
+bool has_text(const char *const *list, size_t count, const char *text);
 
 #endif

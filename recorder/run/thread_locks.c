@@ -12,25 +12,17 @@
 struct scene {
     struct process *process;
     char *text[SEATS_MOST + 1]; /* NULL where there is nothing */
-    char **name;
+    const char **name;
     size_t names, room;
 };
-
-/* What is known of a seat's thread. */
-static char *label_of(const struct notes *notes, unsigned seat)
-{
-    for (size_t i = notes->events; i > 0; i--)
-        if (notes->event[i - 1].kind == EVENT_THREAD && notes->event[i - 1].seat == seat)
-            return thread_label(&notes->event[i - 1]);
-    return copy("");
-}
 
 /* A line of the seat. The first one says which thread it is. What is told there is let go. */
 static void add(struct scene *scene, unsigned seat, char *what, size_t spot)
 {
     const struct notes *notes = &scene->process->notes;
     char *before = scene->text[seat];
-    char *label = before ? copy("") : label_of(notes, seat), *told = place_told(notes_site(notes, spot));
+    char *label = thread_label(before ? NULL : notes_thread(notes, seat, notes->events));
+    char *told = place_told(notes_site(notes, spot));
     scene->text[seat] = say_text("%s seat %u%s %s %s\n", before ? before : "", seat, label, what, told);
     free(told);
     free(label);
@@ -69,14 +61,6 @@ static char *task_name(long process, long thread)
     return copy(name);
 }
 
-static bool is_told(const struct scene *scene, const char *name)
-{
-    for (size_t i = 0; i < scene->names; i++)
-        if (strcmp(scene->name[i], name) == 0)
-            return true;
-    return false;
-}
-
 /*
  * What the program has answered of mutexes, as far as the trace doesn't have it and the thread is one of the process: after
  * a fork a mutex may be held by one of the parent.
@@ -90,11 +74,12 @@ static void write_answer(FILE *to, const struct scene *scene)
             from = i;
     for (size_t i = from; i < notes->events; i++) {
         const struct event *holder = &notes->event[i];
-        if (holder->kind != EVENT_HOLDER || is_told(scene, holder->name ? holder->name : ""))
+        const char *name = holder->name ? holder->name : "";
+        if (holder->kind != EVENT_HOLDER || has_text(scene->name, scene->names, name))
             continue;
         char *task = task_name(scene->process->recording->process, holder->thread);
         if (task)
-            fprintf(to, " thread %ld (%s) holds \"%s\"\n", holder->thread, task, holder->name ? holder->name : "");
+            fprintf(to, " thread %ld (%s) holds \"%s\"\n", holder->thread, task, name);
         free(task);
     }
 }
@@ -104,7 +89,7 @@ static void end_scene(struct scene *scene)
     for (size_t i = 0; i <= SEATS_MOST; i++)
         free(scene->text[i]);
     for (size_t i = 0; i < scene->names; i++)
-        free(scene->name[i]);
+        free((char *)scene->name[i]);
     free(scene->name);
     free(scene);
 }

@@ -8,6 +8,7 @@
 #include <sys/stat.h>
 #include <unistd.h>
 
+#include "files.h"
 #include "format.h"
 #include "allocation.h"
 #include "text_search.h"
@@ -128,15 +129,9 @@ static void look_into(struct look *look, const char *path)
     close(file);
 }
 
-static const char *base_of(const char *path)
-{
-    const char *slash = strrchr(path, '/');
-    return slash ? slash + 1 : path;
-}
-
 static void look_at(struct look *look, const char *object)
 {
-    const char *base = base_of(object);
+    const char *base = file_base(object);
     for (size_t i = 0; i < KINDS; i++)
         if (kinds[i].file && regexec(&look->file[i], base, 0, NULL, 0) == 0)
             look->found[i] = true;

@@ -5,6 +5,7 @@
 #include "lock_names.h"
 #include "map.h"
 #include "allocation.h"
+#include "source_names.h"
 #include "source_text.h"
 #include "steps.h"
 
@@ -146,9 +147,7 @@ static size_t count_before(const struct look *look, const char *name)
 /* The last part of a function's name, without what a template was made for. */
 static char *last_of_function(const char *function)
 {
-    const char *last = function;
-    for (const char *at = strstr(last, "::"); at; at = strstr(last, "::"))
-        last = at + 2;
+    const char *last = last_part(function);
     return copy_bytes(last, strcspn(last, "<( "));
 }
 

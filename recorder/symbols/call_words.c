@@ -2,6 +2,7 @@
 
 #include "lock_expression.h"
 #include "allocation.h"
+#include "source_names.h"
 #include "source_text.h"
 
 #include <stdlib.h>
@@ -32,9 +33,7 @@ static const char *after_word(const char *at)
 /* Where what the function is given begins, with its bracket; NULL where it isn't called there. `Guard name(..)` calls Guard. */
 static const char *call_of(const char *text, const char *function)
 {
-    const char *last = function;
-    for (const char *at = strstr(last, "::"); at; at = strstr(last, "::"))
-        last = at + 2;
+    const char *last = last_part(function);
     size_t length = strcspn(last, "<( ");
     for (const char *at = strstr(text, last); length > 0 && at; at = strstr(at + 1, last)) {
         const char *after = at + length;

@@ -3,7 +3,6 @@
 #include <string.h>
 
 #include "demangle.h"
-#include "libdw.h"
 #include "allocation.h"
 
 /* A lambda that wasn't inlined has a name in the object alone. */

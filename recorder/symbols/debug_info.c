@@ -53,6 +53,21 @@ bool entry_next(const struct entry *entry, struct entry *next)
     return true;
 }
 
+bool entry_find(const struct entry *around, bool (*is)(const struct entry *entry, const void *given), const void *given,
+    enum entry_kind outer, unsigned deep, struct entry *found)
+{
+    struct entry at;
+    for (bool more = entry_first(around, &at); more; more = entry_next(&at, &at)) {
+        if (is(&at, given)) {
+            *found = at;
+            return true;
+        }
+        if (deep > 0 && entry_kind(&at) == outer && entry_find(&at, is, given, outer, deep - 1, found))
+            return true;
+    }
+    return false;
+}
+
 bool entry_has_code_at(const struct entry *entry, uint64_t address)
 {
     return libdw.has_pc(libdw_raw(entry), address) > 0;

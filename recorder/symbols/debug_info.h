@@ -54,6 +54,9 @@ const char *entry_name(const struct entry *entry); /* NULL where it has none */
 /* The first entry inside it, and the next one beside it. False where there is none. */
 bool entry_first(const struct entry *entry, struct entry *inside);
 bool entry_next(const struct entry *entry, struct entry *next);
+/* The first entry inside that is so, by what is given; those of that outer kind are looked into, too, but no deeper. */
+bool entry_find(const struct entry *around, bool (*is)(const struct entry *entry, const void *given), const void *given,
+    enum entry_kind outer, unsigned deep, struct entry *found);
 /* Whether the address is in its code. */
 bool entry_has_code_at(const struct entry *entry, uint64_t address);
 bool entry_has_code(const struct entry *entry);

@@ -225,17 +225,10 @@ const struct entry *debug_info_functions(struct debug_info *info, const struct e
     return NULL;
 }
 
-static bool find_inside(const struct entry *around, uint64_t address, struct entry *found)
+static bool is_scope_at(const struct entry *entry, const void *address)
 {
-    struct entry at;
-    for (bool more = entry_first(around, &at); more; more = entry_next(&at, &at)) {
-        enum entry_kind kind = entry_kind(&at);
-        if ((kind == ENTRY_BLOCK || kind == ENTRY_INLINED) && entry_has_code_at(&at, address)) {
-            *found = at;
-            return true;
-        }
-    }
-    return false;
+    enum entry_kind kind = entry_kind(entry);
+    return (kind == ENTRY_BLOCK || kind == ENTRY_INLINED) && entry_has_code_at(entry, *(const uint64_t *)address);
 }
 
 size_t debug_info_around(struct debug_info *info, const struct entry *unit, uint64_t address,
@@ -246,7 +239,8 @@ size_t debug_info_around(struct debug_info *info, const struct entry *unit, uint
     for (size_t i = 0; i < functions && depth == 0; i++)
         if (entry_has_code_at(&function[i], address))
             around[depth++] = function[i];
-    while (depth > 0 && depth < SCOPES_MOST && find_inside(&around[depth - 1], address, &around[depth]))
+    while (depth > 0 && depth < SCOPES_MOST
+        && entry_find(&around[depth - 1], is_scope_at, &address, ENTRY_BLOCK, 0, &around[depth]))
         depth++;
     return depth;
 }

@@ -1,6 +1,7 @@
 #include "declarations.h"
 
 #include "columns.h"
+#include "files.h"
 #include "format.h"
 #include "allocation.h"
 #include "progress.h"
@@ -237,7 +238,6 @@ static void read_type(struct declared *declared, const struct line *line)
     }
     struct type *type = type_at(declared, number);
     declared->has_news = true;
-    type->is_declared = true;
     type->has_variable = has_variable;
     type->variable = variable;
     type->is_met = field_is(line, 2, WORD_MET);
@@ -431,7 +431,7 @@ const struct place *place_of(const struct declared *declared, uint32_t number)
 const char *object_name(const struct declared *declared, uint32_t number)
 {
     const struct object *object = object_of(declared, number);
-    return object->called ? object->called : object->path ? base_of(object->path) : "";
+    return object->called ? object->called : object->path ? file_base(object->path) : "";
 }
 
 const char *variable_name(const struct declared *declared, const struct variable *variable)

@@ -55,7 +55,7 @@ struct variable {
 };
 
 struct type {
-    bool is_declared, has_variable;
+    bool has_variable;
     bool is_met; /* no call has made its locks: its places are those of a first use */
     struct variable variable;
     const char *given; /* the name that the program gives it; NULL of most types */

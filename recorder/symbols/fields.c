@@ -3,11 +3,9 @@
 #include "debug_info.h"
 #include "declarations.h"
 #include "allocation.h"
-#include "sites.h"
 #include "source_lines.h"
 #include "source_text.h"
 
-#include <stdio.h>
 #include <stdlib.h>
 #include <string.h>
 
@@ -169,23 +167,17 @@ static bool has_field(const struct entry *structure, const struct wanted *wanted
     return false;
 }
 
-static bool is_wanted_in(const struct entry *around, unsigned deep, const void *context)
+static bool is_wanted(const struct entry *entry, const void *context)
 {
     const struct wanted *wanted = context;
-    struct entry at;
-    for (bool more = entry_first(around, &at); more; more = entry_next(&at, &at)) {
-        enum entry_kind kind = entry_kind(&at);
-        if (kind == ENTRY_STRUCTURE && has_name(entry_name(&at), wanted->structure) && has_field(&at, wanted))
-            return true;
-        if (kind == ENTRY_NAMESPACE && deep < NAMESPACES_DEEP && is_wanted_in(&at, deep + 1, context))
-            return true;
-    }
-    return false;
+    return entry_kind(entry) == ENTRY_STRUCTURE && has_name(entry_name(entry), wanted->structure)
+        && has_field(entry, wanted);
 }
 
 static bool looks_in(const struct entry *unit, const void *context)
 {
-    return is_wanted_in(unit, 0, context);
+    struct entry found;
+    return entry_find(unit, is_wanted, context, ENTRY_NAMESPACE, NAMESPACES_DEEP, &found);
 }
 
 /* The program's objects: no library that has a version. */

@@ -1,7 +1,6 @@
 #include "ignore.h"
 
 #include "allocation.h"
-#include "texts.h"
 #include "type_names.h"
 
 #include <stdio.h>

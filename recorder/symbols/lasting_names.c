@@ -6,7 +6,6 @@
 #include "lasting_variables.h"
 #include "lock_names.h"
 #include "allocation.h"
-#include "sites.h"
 #include "source_names.h"
 #include "steps.h"
 #include "texts.h"

@@ -19,15 +19,8 @@
 enum { LOCK_BYTES = 40 };
 
 struct lock_names {
-    struct map by_step; /* numbers in the list, from 1 on */
-    const struct lock_name_in_source **name;
-    size_t names, room;
-    struct map functions_by_step; /* numbers in the list, from 1 on */
-    const struct function_in_source **function;
-    size_t functions, function_room;
-    struct map fields; /* by labels and places: numbers in the list, from 1 on */
-    const char **field;
-    size_t field_count, field_room;
+    struct map by_step, functions_by_step; /* names and functions, in the texts */
+    struct map fields;                     /* by labels and places, in the texts; an empty one where it isn't known */
     struct alike *alike;
     struct texts *texts;
 };
@@ -42,9 +35,6 @@ struct lock_names *lock_names_new(void)
 
 void lock_names_end(struct lock_names *names)
 {
-    free(names->name);
-    free(names->function);
-    free(names->field);
     map_end(&names->fields);
     map_end(&names->by_step);
     map_end(&names->functions_by_step);
@@ -206,16 +196,17 @@ bool has_text_at(const struct declared *declared, const struct step *step)
     return text_at(declared, step) != NULL;
 }
 
-static void find_function(struct lock_names *names, const struct declared *declared, const struct step *step,
-    struct function_in_source *function)
+static const struct function_in_source *find_function(struct lock_names *names, const struct declared *declared,
+    const struct step *step)
 {
+    struct function_in_source *function = texts_room(names->texts, sizeof *function);
     struct binary *binary = object_of(declared, step->place->object)->binary;
     struct debug_info *info = binary && step->place->kind == PLACE_CALL && step->site ? binary_debug(binary) : NULL;
     struct spot_of_code spot;
     long first;
     function->lines = -1;
     if (!info)
-        return;
+        return function;
     char *file = spot_at(step, &spot), *name = function_at(info, &spot, &first);
     function->lines = name ? spot.line - first : -1;
     free(file);
@@ -223,6 +214,7 @@ static void find_function(struct lock_names *names, const struct declared *decla
     if (name && (!step->function || is_bare || !is_name_of_function(step->function, name)))
         function->name = kept(names, name);
     free(name);
+    return function;
 }
 
 /* What tells the step from others: a text of one's own. */
@@ -237,15 +229,11 @@ const struct function_in_source *function_at_step(const struct declared *declare
 {
     struct lock_names *names = symbols_lock_names(declared->symbols);
     char *key = key_of(declared, step);
-    size_t *number = map_add_text(&names->functions_by_step, key);
-    if (*number == 0) {
-        struct function_in_source *found = texts_room(names->texts, sizeof *found);
-        find_function(names, declared, step, found);
-        ADD(names->function, names->functions, names->function_room) = found;
-        *number = names->functions;
-    }
+    const void **function = map_thing(&names->functions_by_step, key, strlen(key));
+    if (!*function)
+        *function = find_function(names, declared, step);
     free(key);
-    return names->function[*number - 1];
+    return *function;
 }
 
 const char *lock_field_of(const struct declared *declared, const struct type *type)
@@ -255,27 +243,24 @@ const char *lock_field_of(const struct declared *declared, const struct type *ty
     if (!type->label || !place || place->kind != PLACE_SITE)
         return NULL;
     char *key = say_text("%s\n%s:%u", type->label, place->site->frame[0].site, (unsigned)type->column);
-    size_t *number = map_add_text(&names->fields, key);
-    if (*number == 0) {
+    const void **known = map_thing(&names->fields, key, strlen(key));
+    if (!*known) {
         char *found = field_of_label(declared, type);
-        ADD(names->field, names->field_count, names->field_room) = kept(names, found);
-        *number = names->field_count;
+        *known = kept(names, found ? found : "");
         free(found);
     }
     free(key);
-    return names->field[*number - 1];
+    const char *field = *known;
+    return *field ? field : NULL;
 }
 
 const struct lock_name_in_source *lock_name_at(const struct declared *declared, const struct step *step)
 {
     struct lock_names *names = symbols_lock_names(declared->symbols);
     char *key = key_of(declared, step);
-    size_t *number = map_add_text(&names->by_step, key);
-    if (*number == 0) {
-        const struct lock_name_in_source *found = find(names, declared, step);
-        ADD(names->name, names->names, names->room) = found;
-        *number = names->names;
-    }
+    const void **name = map_thing(&names->by_step, key, strlen(key));
+    if (!*name)
+        *name = find(names, declared, step);
     free(key);
-    return names->name[*number - 1];
+    return *name;
 }

@@ -25,7 +25,7 @@ struct lock_name_in_source {
 struct lock_names *lock_names_new(void);
 void lock_names_end(struct lock_names *names);
 
-/* What is known of lines that look alike (alike.h). */
+/* What is known of lines that look alike (call_choice.h). */
 struct alike *lock_names_alike(const struct lock_names *names);
 
 /*

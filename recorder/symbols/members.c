@@ -1,12 +1,14 @@
 #include "members.h"
 
 #include "allocation.h"
+#include "files.h"
 #include "scopes.h"
 #include "source_names.h"
 #include "source_text.h"
 #include "expression_values.h"
 
 #include <ctype.h>
+#include <limits.h>
 #include <stdio.h>
 #include <stdlib.h>
 #include <string.h>
@@ -37,26 +39,23 @@ static bool select_own(const struct context *context, const char *name, struct v
     return false;
 }
 
+static bool is_called(const struct entry *entry, const void *name)
+{
+    struct entry type;
+    return entry_kind(entry) == ENTRY_FUNCTION && is_named(entry, name) && entry_type(entry, &type);
+}
+
 static bool find_called(const struct entry *around, const char *name, struct entry *type)
 {
-    struct entry at;
-    for (bool more = entry_first(around, &at); more; more = entry_next(&at, &at)) {
-        enum entry_kind kind = entry_kind(&at);
-        if (kind == ENTRY_FUNCTION && is_named(&at, name) && entry_type(&at, type))
-            return true;
-        if (kind == ENTRY_NAMESPACE && find_called(&at, name, type))
-            return true;
-    }
-    return false;
+    struct entry function;
+    return entry_find(around, is_called, name, ENTRY_NAMESPACE, UINT_MAX, &function) && entry_type(&function, type);
 }
 
 /* A name at the head of an expression. */
 static bool find_named(const struct context *context, const char *name, struct value *value)
 {
     uint64_t address;
-    const char *last = name;
-    for (const char *at = strstr(name, "::"); at; at = strstr(last, "::"))
-        last = at + 2;
+    const char *last = last_part(name);
     *value = (struct value){0};
     if (strcmp(name, "this") == 0)
         return find_local(context, name, &value->variable) && entry_type(&value->variable, &value->type);
@@ -186,8 +185,8 @@ static void name_of_class(const struct value *value, struct member *member)
     if (!class)
         return;
     bool is_private = ends_with(file, ".c") || strstr(class, "{anonymous}");
-    member->name = say_text("%s::%s%s%s%s", class, value->path, is_private ? " (" : "", is_private ? base_of(file) : "",
-        is_private ? ")" : "");
+    member->name = say_text("%s::%s%s%s%s", class, value->path, is_private ? " (" : "",
+        is_private ? file_base(file) : "", is_private ? ")" : "");
     member->identity = say_text("class %s::%s %s", class, value->path, file);
     free(class);
 }

@@ -1,6 +1,5 @@
 #include "notes.h"
 
-#include "allocation.h"
 #include "texts.h"
 
 #include <stdlib.h>
@@ -37,6 +36,22 @@ const struct lock_name *notes_lock(const struct notes *notes, unsigned number)
     return number > 0 && number <= notes->locks ? &notes->lock[number - 1] : &none;
 }
 
+const char *notes_lock_type(const struct notes *notes, const char *name)
+{
+    for (size_t i = 0; i < notes->locks; i++)
+        if (strcmp(notes->lock[i].name, name) == 0)
+            return notes->lock[i].type;
+    return name;
+}
+
+const struct event *notes_thread(const struct notes *notes, unsigned seat, size_t events)
+{
+    for (size_t i = events; i > 0; i--)
+        if (notes->event[i - 1].kind == EVENT_THREAD && notes->event[i - 1].seat == seat)
+            return &notes->event[i - 1];
+    return NULL;
+}
+
 struct code_place notes_variable(const struct notes *notes, const char *type)
 {
     struct code_place found = {0};
@@ -69,4 +84,10 @@ const char *notes_site(const struct notes *notes, size_t number)
 {
     const struct spot *spot = notes_spot(notes, number);
     return spot ? spot->site : "?:0";
+}
+
+const struct frames *notes_frames(const struct notes *notes, size_t number)
+{
+    const struct spot *spot = notes_spot(notes, number);
+    return spot && spot->frames > 0 && spot->frames <= notes->framed ? &notes->frames[spot->frames - 1] : NULL;
 }

@@ -122,6 +122,10 @@ void notes_end(struct notes *notes);
 const char *notes_type(const struct notes *notes, const char *number);
 /* The lock of that number in the trace; one without names where there is none. */
 const struct lock_name *notes_lock(const struct notes *notes, unsigned number);
+/* The type of the lock of that name; the name where there is no such lock. */
+const char *notes_lock_type(const struct notes *notes, const char *name);
+/* The thread that has the seat when so many events have come; NULL where none has had it. */
+const struct event *notes_thread(const struct notes *notes, unsigned seat, size_t events);
 
 /* The variable that all locks of the type are; one without an object where there is none, or several. */
 struct code_place notes_variable(const struct notes *notes, const char *type);
@@ -131,5 +135,7 @@ const struct alias *notes_alias(const struct notes *notes, const char *type);
 const struct spot *notes_spot(const struct notes *notes, size_t number);
 /* Its site, FILE:LINE or as in ../code_words.h. */
 const char *notes_site(const struct notes *notes, size_t number);
+/* Its frames; NULL where they aren't known. */
+const struct frames *notes_frames(const struct notes *notes, size_t number);
 
 #endif

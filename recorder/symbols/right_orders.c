@@ -1,7 +1,5 @@
 #include "right_orders.h"
 
-#include "files.h"
-#include "format.h"
 #include "allocation.h"
 #include "texts.h"
 

@@ -297,10 +297,8 @@ static void ignore(const struct right_requests *reading, const struct types *typ
         ignored_add_type(ignored, held, IGNORED_AS_RIGHT);
     else
         ignored_add_pair(ignored, held, asked, IGNORED_AS_RIGHT);
-    for (size_t i = 0; i < notes->libraries; i++)
-        if (strcmp(notes->library[i], library) == 0)
-            return;
-    ADD(notes->library, notes->libraries, notes->library_room) = texts_copy(notes->texts, library, strlen(library));
+    if (!has_text(notes->library, notes->libraries, library))
+        ADD(notes->library, notes->libraries, notes->library_room) = texts_copy(notes->texts, library, strlen(library));
 }
 
 struct right_requests *right_requests_new(const struct right_orders *right, const struct declared *declared)

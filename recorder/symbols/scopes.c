@@ -1,5 +1,6 @@
 #include "scopes.h"
 
+#include "files.h"
 #include "source_names.h"
 
 #include <limits.h>
@@ -15,7 +16,7 @@ bool is_named(const struct entry *entry, const char *name)
 static int line_of_function(const struct context *context, const struct entry *function)
 {
     const char *file = entry_file(function);
-    bool is_there = file && strcmp(base_of(file), base_of(context->spot->file)) == 0;
+    bool is_there = file && strcmp(file_base(file), file_base(context->spot->file)) == 0;
     return is_there ? entry_line(function) : 0;
 }
 
@@ -54,47 +55,32 @@ bool context_begin(struct context *context, struct debug_info *info, const struc
     return debug_info_unit(info, spot->address, &context->unit) && find_around(context);
 }
 
-static bool find_variable_in(const struct entry *around, const char *name, bool in_blocks, struct entry *found)
+static bool is_variable(const struct entry *entry, const void *name)
 {
-    struct entry at;
-    for (bool more = entry_first(around, &at); more; more = entry_next(&at, &at)) {
-        enum entry_kind kind = entry_kind(&at);
-        if ((kind == ENTRY_VARIABLE || kind == ENTRY_PARAMETER) && is_named(&at, name)) {
-            *found = at;
-            return true;
-        }
-        if (in_blocks && kind == ENTRY_BLOCK && find_variable_in(&at, name, true, found))
-            return true;
-    }
-    return false;
+    return entry_kind(entry) == ENTRY_VARIABLE && is_named(entry, name);
+}
+
+static bool is_local(const struct entry *entry, const void *name)
+{
+    return is_variable(entry, name) || (entry_kind(entry) == ENTRY_PARAMETER && is_named(entry, name));
 }
 
 /* A variable of the function. What was left out where it was inlined stands in the function itself. */
 bool find_local(const struct context *context, const char *name, struct entry *found)
 {
     for (size_t i = context->depth; i-- > 0;)
-        if (find_variable_in(&context->around[i], name, i == 0, found))
+        if (entry_find(&context->around[i], is_local, name, ENTRY_BLOCK, i == 0 ? UINT_MAX : 0, found))
             return true;
     struct entry function = context->around[0];
     for (unsigned origins = 0; origins < 3 && entry_origin(&function, &function); origins++)
-        if (find_variable_in(&function, name, true, found))
+        if (entry_find(&function, is_local, name, ENTRY_BLOCK, UINT_MAX, found))
             return true;
     return false;
 }
 
 bool find_global(const struct entry *around, const char *name, struct entry *found)
 {
-    struct entry at;
-    for (bool more = entry_first(around, &at); more; more = entry_next(&at, &at)) {
-        enum entry_kind kind = entry_kind(&at);
-        if (kind == ENTRY_VARIABLE && is_named(&at, name)) {
-            *found = at;
-            return true;
-        }
-        if (kind == ENTRY_NAMESPACE && find_global(&at, name, found))
-            return true;
-    }
-    return false;
+    return entry_find(around, is_variable, name, ENTRY_NAMESPACE, UINT_MAX, found);
 }
 
 char *function_at(struct debug_info *info, const struct spot_of_code *spot, long *line)
@@ -112,11 +98,7 @@ char *function_at(struct debug_info *info, const struct spot_of_code *spot, long
 
 bool is_name_of_function(const char *told, const char *whole)
 {
-    const char *told_last = told, *last = whole;
-    for (const char *at = strstr(told, "::"); at; at = strstr(told_last, "::"))
-        told_last = at + 2;
-    for (const char *at = strstr(whole, "::"); at; at = strstr(last, "::"))
-        last = at + 2;
+    const char *told_last = last_part(told), *last = last_part(whole);
     /* What a template gives stands before its name, and what it was made for after the other one. */
     if (strncmp(told_last, "operator", 8) != 0 && strrchr(told_last, ' '))
         told_last = strrchr(told_last, ' ') + 1;

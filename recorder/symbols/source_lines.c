@@ -6,7 +6,6 @@
 #include "texts.h"
 
 #include <fcntl.h>
-#include <stdio.h>
 #include <stdlib.h>
 #include <string.h>
 #include <sys/stat.h>
@@ -23,11 +22,10 @@ struct source {
 };
 
 struct source_lines {
-    struct map by_file, by_site; /* numbers in the lists, from 1 on */
+    struct map by_file; /* numbers in the list, from 1 on */
     struct source *source;
     size_t sources, source_room;
-    const struct statement **statement;
-    size_t statements, statement_room;
+    struct map by_site; /* statements, in the texts */
     struct texts *texts;
 };
 
@@ -43,7 +41,6 @@ void source_lines_end(struct source_lines *lines)
     for (size_t i = 0; i < lines->sources; i++)
         free(lines->source[i].bytes);
     free(lines->source);
-    free(lines->statement);
     map_end(&lines->by_file);
     map_end(&lines->by_site);
     texts_end(lines->texts);
@@ -139,12 +136,10 @@ static const struct statement *read_statement(struct source_lines *lines, const 
 
 const struct statement *source_lines_at(struct source_lines *lines, const char *site)
 {
-    size_t *number = map_add_text(&lines->by_site, site);
-    if (*number == 0) {
-        ADD(lines->statement, lines->statements, lines->statement_room) = read_statement(lines, site);
-        *number = lines->statements;
-    }
-    return lines->statement[*number - 1];
+    const void **statement = map_thing(&lines->by_site, site, strlen(site));
+    if (!*statement)
+        *statement = read_statement(lines, site);
+    return *statement;
 }
 
 const char *source_lines_from(struct source_lines *lines, const char *site)

@@ -4,7 +4,6 @@
 #ifndef RECORD_SOURCE_LINES_H
 #define RECORD_SOURCE_LINES_H
 
-#include <stdbool.h>
 #include <time.h>
 
 struct source_lines;

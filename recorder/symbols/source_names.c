@@ -1,10 +1,10 @@
 #include "source_names.h"
 
+#include "files.h"
 #include "format.h"
 
 #include <fnmatch.h>
 #include <string.h>
-#include <strings.h>
 
 enum { HASH_DIGITS = 16, WORD_MOST = 256 };
 
@@ -213,10 +213,11 @@ void undo_escapes(char *word)
     *to = '\0';
 }
 
-const char *base_of(const char *path)
+const char *last_part(const char *name)
 {
-    const char *last = strrchr(path, '/');
-    return last ? last + 1 : path;
+    for (const char *at = strstr(name, "::"); at; at = strstr(name, "::"))
+        name = at + 2;
+    return name;
 }
 
 /* `c++/v1/`, or `c++/12/`. */
@@ -303,8 +304,7 @@ bool is_wrapper(const char *name, const char *patterns)
     static const char *const others[] = {NO_WRAPPER_ENDS};
     static const char *const locks[] = {WRAPPER_ENDS};
     char end[32];
-    for (const char *at = strstr(name, "::"); at; at = strstr(name, "::"))
-        name = at + 2;
+    name = last_part(name);
     if (patterns && is_passed_over(name, patterns))
         return true;
     size_t length = strlen(name), kept = length < sizeof end - 1 ? length : sizeof end - 1;
@@ -327,11 +327,11 @@ bool is_thread_begin(const char *name)
 
 bool is_c_library(const char *path)
 {
-    return begins(base_of(path), "libc.so.");
+    return begins(file_base(path), "libc.so.");
 }
 
 bool is_library_object(const char *path)
 {
-    const char *name = base_of(path);
+    const char *name = file_base(path);
     return begins(name, "libstdc++.so") || begins(name, "libc++.so") || begins(name, "libc++abi.so");
 }

@@ -19,8 +19,8 @@ void clean_word(char *word);
 /* What a word of a stream stands for, whose escapes are undone: in place. */
 void undo_escapes(char *word);
 
-/* The path without its folders. */
-const char *base_of(const char *path);
+/* What stands after the last `::`. */
+const char *last_part(const char *name);
 
 /* Whether a function of that demangled name, from that file, is of C++'s library or Rust's, or annotates a lock. */
 bool is_of_library(const char *name, const char *file);

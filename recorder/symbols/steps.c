@@ -2,6 +2,7 @@
 
 #include "columns.h"
 #include "allocation.h"
+#include "files.h"
 #include "sites.h"
 #include "source_names.h"
 #include "texts.h"
@@ -27,7 +28,7 @@ static void add_frame(struct walk *walk, const struct place *place, const struct
     /* Of callers the line counts: objects of one class that a line makes are of one type. */
     unsigned column = walk->steps->count == 0 ? column_that_parts(walk->declared, place, number, frame->site) : 0;
     const char *site = column ? texts_say(walk->declared->derived, "%s:%u", frame->site, column) : frame->site;
-    add(walk, (struct step){place, site, base_of(site), frame->function, frame->site, number});
+    add(walk, (struct step){place, site, file_base(site), frame->function, frame->site, number});
 }
 
 /* A place of which the symbols know no line. */

@@ -5,7 +5,6 @@
 #define RECORD_STEPS_H
 
 #include <stddef.h>
-#include <stdint.h>
 
 #include "declarations.h"
 

@@ -16,9 +16,7 @@
 struct binary {
     struct symbols *symbols;
     char *path;
-    struct map known; /* the number of an address's code, from 1 on */
-    const struct code **code;
-    size_t codes, code_room;
+    struct map known; /* the code at an address, in the texts */
     struct object_file file;
     bool has_file; /* it was read */
     struct debug_info *debug;
@@ -36,9 +34,7 @@ struct symbols {
     struct map by_path; /* a binary's number, from 1 on */
     struct binary **binary;
     size_t binaries, binary_room;
-    struct map names; /* the number of an object's name, from 1 on */
-    struct name *name;
-    size_t named, name_room;
+    struct map names; /* an object's name in the source, in the texts */
     struct source_lines *lines;
     struct lock_names *lock_names;
 };
@@ -57,7 +53,6 @@ static void binary_end(struct binary *binary)
 {
     debug_info_end(binary->debug);
     map_end(&binary->known);
-    free(binary->code);
     free(binary->path);
     free(binary);
 }
@@ -69,7 +64,6 @@ void symbols_end(struct symbols *symbols)
     free(symbols->binary);
     map_end(&symbols->by_path);
     map_end(&symbols->names);
-    free(symbols->name);
     source_lines_end(symbols->lines);
     lock_names_end(symbols->lock_names);
     texts_end(symbols->texts);
@@ -154,28 +148,30 @@ const struct code *binary_code(struct binary *binary, uint64_t offset)
     static const struct code nothing;
     if (!binary)
         return &nothing;
-    size_t number = map_find(&binary->known, &offset, sizeof offset);
-    if (number == 0) {
-        ADD(binary->code, binary->codes, binary->code_room) = read_code(binary, offset);
-        number = *map_add(&binary->known, &offset, sizeof offset) = binary->codes;
-    }
-    return binary->code[number - 1];
+    const void **code = map_thing(&binary->known, &offset, sizeof offset);
+    if (!*code)
+        *code = read_code(binary, offset);
+    return *code;
+}
+
+static const struct name *read_name(struct symbols *symbols, const char *name)
+{
+    struct name *read = texts_room(symbols->texts, sizeof *read);
+    char *demangled = demangle(name), *function = copy(demangled ? demangled : name);
+    read->whole = texts_copy(symbols->texts, function, strlen(function));
+    shorten(function);
+    read->function = texts_copy(symbols->texts, function, strlen(function));
+    free(demangled);
+    free(function);
+    return read;
 }
 
 static const struct name *name_in_source(struct symbols *symbols, const char *name)
 {
-    size_t *number = map_add_text(&symbols->names, name);
-    if (*number == 0) {
-        char *demangled = demangle(name), *function = copy(demangled ? demangled : name);
-        const char *whole = texts_copy(symbols->texts, function, strlen(function));
-        shorten(function);
-        ADD(symbols->name, symbols->named, symbols->name_room) =
-            (struct name){whole, texts_copy(symbols->texts, function, strlen(function))};
-        *number = symbols->named;
-        free(demangled);
-        free(function);
-    }
-    return &symbols->name[*number - 1];
+    const void **known = map_thing(&symbols->names, name, strlen(name));
+    if (!*known)
+        *known = read_name(symbols, name);
+    return *known;
 }
 
 const char *symbols_name(struct symbols *symbols, const char *name)

@@ -1,6 +1,5 @@
 #include "trace.h"
 
-#include "allocation.h"
 #include "format.h"
 #include "stream_locks.h"
 #include "place_words.h"
@@ -19,15 +18,10 @@ struct writing {
     bool is_odd;
 };
 
-static void put_bytes(FILE *trace, const char *bytes, size_t length)
-{
-    fwrite_unlocked(bytes, 1, length, trace);
-}
-
 /* The line as it stands. */
 static void put_line(struct writing *writing, const struct line *line)
 {
-    put_bytes(writing->trace, line->at, (size_t)(line->end - line->at));
+    fwrite_unlocked(line->at, 1, (size_t)(line->end - line->at), writing->trace);
     putc_unlocked('\n', writing->trace);
 }
 
@@ -62,7 +56,7 @@ static void write_header(const struct making *making, FILE *trace)
 static void put_placed(struct writing *writing, const struct line *line, unsigned before, unsigned field)
 {
     uint32_t place;
-    put_bytes(writing->trace, line->at, (size_t)(line->field[before].at - line->at));
+    fwrite_unlocked(line->at, 1, (size_t)(line->field[before].at - line->at), writing->trace);
     if (before < field)
         fputs(CHECK_ASKS " ", writing->trace);
     if (!field_number(line, field, PLACE_MOST - 1, &place))
@@ -106,7 +100,7 @@ static void put_init(struct writing *writing, const struct line *line)
     const char *type = made_type_name(&made, making->types);
     bool is_ignored = why_ignored(making->ignored, type, type) != NOT_IGNORED;
     bool is_recursive = memchr(flags.at, *INIT_RECURSIVE, flags.length);
-    put_bytes(writing->trace, line->at, (size_t)(flags.at - line->at));
+    fwrite_unlocked(line->at, 1, (size_t)(flags.at - line->at), writing->trace);
     fputs(is_recursive ? INIT_RECURSIVE : is_ignored ? "" : NO_NAME, writing->trace);
     put_name(writing->trace, is_ignored ? "d " : " ", name);
     if (strcmp(name, type) != 0)

@@ -1,5 +1,6 @@
 #include "type_names.h"
 
+#include "files.h"
 #include "function_names.h"
 #include "lasting_variables.h"
 #include "lock_names.h"
@@ -142,7 +143,7 @@ static const char *with_file(const struct giving *giving, uint32_t number)
     char *colon = site ? strrchr(site, ':') : NULL;
     if (colon) {
         *colon = '\0';
-        char *name = say_text("%s (%s)", wanted, base_of(site));
+        char *name = say_text("%s (%s)", wanted, file_base(site));
         clean_name(name);
         wanted = texts_copy(giving->declared->derived, name, strlen(name));
         free(name);

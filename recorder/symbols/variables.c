@@ -2,6 +2,7 @@
 
 #include "debug_types.h"
 #include "allocation.h"
+#include "files.h"
 #include "source_names.h"
 
 #include <inttypes.h>
@@ -30,7 +31,7 @@ static bool is_of_system(const struct plain_type *type)
     const char *file = entry_file(&type->entry);
     return file
         && (strncmp(file, "/usr/include/", 13) == 0 || strncmp(file, "/usr/lib/", 9) == 0 || is_of_library("", file)
-            || strcmp(base_of(file), "witness.hpp") == 0);
+            || strcmp(file_base(file), "witness.hpp") == 0);
 }
 
 static bool select_element(struct part *part, const struct entry *array, uint64_t few, bool is_any)

@@ -9,7 +9,6 @@
 #include "progress.h"
 #include "source_names.h"
 #include "texts.h"
-#include "type_names.h"
 
 #include <inttypes.h>
 #include <stdlib.h>
@@ -36,15 +35,10 @@ struct verifier_lines {
     bool is_odd;
 };
 
-static void put_bytes(FILE *to, const char *bytes, size_t length)
-{
-    fwrite_unlocked(bytes, 1, length, to);
-}
-
 /* The line as it stands. */
 static void put_line(struct verifier_lines *writing, const struct line *line)
 {
-    put_bytes(writing->to, line->at, (size_t)(line->end - line->at));
+    fwrite_unlocked(line->at, 1, (size_t)(line->end - line->at), writing->to);
     putc_unlocked('\n', writing->to);
 }
 
@@ -52,11 +46,8 @@ static void put_line(struct verifier_lines *writing, const struct line *line)
 static void note_blind(struct notes *notes, const char *object)
 {
     char *name = copy(object);
-    size_t at = 0;
     clean_name(name);
-    while (at < notes->blinds && strcmp(notes->blind[at], name) != 0)
-        at++;
-    if (at == notes->blinds)
+    if (!has_text(notes->blind, notes->blinds, name))
         ADD(notes->blind, notes->blinds, notes->blind_room) = texts_copy(notes->texts, name, strlen(name));
     free(name);
 }
@@ -153,7 +144,7 @@ static size_t put_place(struct verifier_lines *writing, const struct line *line,
     do
         *--at = (char)('0' + number % 10);
     while (number /= 10);
-    put_bytes(writing->to, at, (size_t)(digits + sizeof digits - at));
+    fwrite_unlocked(at, 1, (size_t)(digits + sizeof digits - at), writing->to);
     return spot;
 }
 
@@ -164,7 +155,7 @@ static size_t put_placed(struct verifier_lines *writing, const struct line *line
         put_line(writing, line);
         return 0;
     }
-    put_bytes(writing->to, line->at, (size_t)(line->field[field].at - line->at));
+    fwrite_unlocked(line->at, 1, (size_t)(line->field[field].at - line->at), writing->to);
     return put_place(writing, line, field);
 }
 
@@ -269,7 +260,7 @@ static void put_made(struct verifier_lines *writing, const struct made_lock *mad
         put_line(writing, line);
         return;
     }
-    put_bytes(writing->to, line->at, (size_t)(line->field[FIELD_TYPE].at - line->at));
+    fwrite_unlocked(line->at, 1, (size_t)(line->field[FIELD_TYPE].at - line->at), writing->to);
     fprintf(writing->to, "%" PRIu32 " %.*s\n", made->type, (int)line->field[FIELD_TYPE + 1].length,
         line->field[FIELD_TYPE + 1].at);
 }
@@ -314,9 +305,11 @@ static void note_lock(struct verifier_lines *writing, struct event *event, const
         event->name = writing->notes->lock[number - 1].name;
 }
 
-static void note_again(struct verifier_lines *writing, const struct line *line)
+/* `again SEAT LOCK PLACE`, or `foreign ..`. */
+static void note_misuse(struct verifier_lines *writing, const struct line *line)
 {
-    struct event *event = new_event(writing, EVENT_AGAIN, line);
+    enum event_kind kind = field_is(line, 0, WORD_AGAIN) ? EVENT_AGAIN : EVENT_FOREIGN;
+    struct event *event = new_event(writing, kind, line);
     note_lock(writing, event, line, 2);
     event->site = site_of(writing->making->sites, place_in(line, 3));
 }
@@ -335,13 +328,6 @@ static void note_went(struct verifier_lines *writing, const struct line *line)
             return;
         }
     }
-}
-
-static void note_foreign(struct verifier_lines *writing, const struct line *line)
-{
-    struct event *event = new_event(writing, EVENT_FOREIGN, line);
-    note_lock(writing, event, line, 2);
-    event->site = site_of(writing->making->sites, place_in(line, 3));
 }
 
 /* `error WORD SEAT LOCK PLACE`. */
@@ -504,9 +490,9 @@ static const struct {
     {WORD_INIT, put_init},
     {WORD_TIME, note_time},
     {WORD_THREAD, note_thread},
-    {WORD_AGAIN, note_again},
+    {WORD_AGAIN, note_misuse},
     {WORD_WENT, note_went},
-    {WORD_FOREIGN, note_foreign},
+    {WORD_FOREIGN, note_misuse},
     {WORD_HOLDER, note_holder},
     {WORD_ANSWER, note_answer},
     {WORD_OWNER, note_owner},

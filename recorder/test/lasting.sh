@@ -83,7 +83,7 @@ fi
 if wanted locked; then
     in_folders "${CC:-cc}" -std=c11 -D_GNU_SOURCE -g -O1 -fsanitize=address,undefined -fno-sanitize-recover=undefined -Wall -Wextra -Werror \
         -o locked "$here/locked.c" \
-        "$recorder/symbols/lock_expression.c" "$recorder/symbols/call_words.c" "$recorder/symbols/source_text.c" "$recorder/run/allocation.c" &&
+        $(source_of lock_expression call_words source_text source_names files allocation) &&
         grep -v '^  ' "$here/locked.want" | ./locked | diff "$here/locked.want" -
     tell locked "the lock that a source line names" $?
 fi

@@ -1,9 +1,10 @@
-#include "verifier.h"
+#include "verifier_process.h"
 
 #include <stdlib.h>
 #include <string.h>
 
 #include "allocation.h"
+#include "finding_lines.h"
 
 enum { LOOK_PATIENCE = 30000 };
 
@@ -25,12 +26,11 @@ void verifier_hears(struct verifier *verifier, const char *witness)
 /* Whether what it has told ends with all of a moment. */
 static bool has_moment(const struct verifier *verifier)
 {
-    static const char clean[] = "{\"finding\":\"clean\"";
     const char *told = verifier->told;
     size_t length = verifier->length;
     const char *last = length > 0 && told[length - 1] == '\n' ? memrchr(told, '\n', length - 1) : NULL;
     last = last ? last + 1 : told;
-    return length > sizeof clean && told[length - 1] == '\n' && strncmp(last, clean, sizeof clean - 1) == 0;
+    return length > 0 && told[length - 1] == '\n' && IS_FINDING(last, "clean");
 }
 
 /* Waits for what it tells next. False where it tells no more. */

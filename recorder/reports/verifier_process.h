@@ -1,8 +1,8 @@
 /*
- * `witness findings`: it is told lines, and asked what it knows by then, and for the grades of what it has reported.
+ * `witness findings`, run and asked: it is told lines, tells what it knows by then, and grades what it has reported.
  */
-#ifndef RECORD_VERIFIER_H
-#define RECORD_VERIFIER_H
+#ifndef RECORD_VERIFIER_PROCESS_H
+#define RECORD_VERIFIER_PROCESS_H
 
 #include <stdbool.h>
 #include <stddef.h>
