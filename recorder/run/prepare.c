@@ -13,6 +13,7 @@
 
 #include "files.h"
 #include "format.h"
+#include "ignore.h"
 #include "learn.h"
 #include "allocation.h"
 #include "output_files.h"
@@ -26,52 +27,18 @@ enum { RESERVE_BYTES = 1 << 18, MAPPED_BYTES = 4096, LOT = 12 };
 static const char *removed; /* when `record` ends */
 static void *mapped = MAP_FAILED;
 
-/* After a name in quotes; NULL where there is none. */
-static const char *after_name(const char *at, const char *end)
-{
-    if (at == end || *at != '"')
-        return NULL;
-    const char *quote = memchr(at + 1, '"', (size_t)(end - at - 1));
-    return quote && quote > at + 1 ? quote + 1 : NULL;
-}
-
-static const char *after_blanks(const char *at, const char *end)
-{
-    while (at < end && (*at == ' ' || *at == '\t'))
-        at++;
-    return at;
-}
-
-/* Each line of the ignore file is a comment, or empty, or one name or two, and maybe a comment after them. */
-static bool is_good_line(const char *at, const char *end)
-{
-    if (after_blanks(at, end) == end || *at == '#')
-        return true;
-    at = after_name(at, end);
-    if (!at)
-        return false;
-    const char *next = after_blanks(at, end), *second = next > at ? after_name(next, end) : NULL;
-    if (second)
-        next = after_blanks(second, end);
-    return next == end || *next == '#';
-}
-
 static void check_ignore(const char *path)
 {
     struct stat found;
-    FILE *file = stat(path, &found) == 0 && S_ISREG(found.st_mode) ? fopen(path, "re") : NULL;
-    char *line = NULL;
-    size_t room = 0, number = 0;
-    ssize_t length;
-    if (!file)
+    struct ignore ignore = {.is_unread = true};
+    unsigned long bad = 0;
+    if (stat(path, &found) == 0 && S_ISREG(found.st_mode))
+        bad = ignore_read(&ignore, path);
+    if (ignore.is_unread)
         refuse("%s can't be read", path);
-    while ((length = getline(&line, &room, file)) > 0) {
-        number++;
-        if (!is_good_line(line, line + length - (line[length - 1] == '\n')))
-            refuse("%s: line %zu isn't \"TYPE\" or \"TYPE\" \"TYPE\"", path, number);
-    }
-    free(line);
-    fclose(file);
+    if (bad)
+        refuse("%s: line %lu isn't \"TYPE\" or \"TYPE\" \"TYPE\"", path, bad);
+    ignore_end(&ignore);
 }
 
 /* The name of the log, as it would be of this process; %p is the number. */
