@@ -1,13 +1,12 @@
 #include "unseen_locks.h"
 
-#include <fcntl.h>
 #include <regex.h>
 #include <stdbool.h>
 #include <stdlib.h>
 #include <string.h>
-#include <sys/stat.h>
 #include <unistd.h>
 
+#include "files.h"
 #include "format.h"
 #include "allocation.h"
 #include "text_search.h"
@@ -115,11 +114,10 @@ static void look_into(struct look *look, const char *path)
     struct stat found;
     size_t kept = 0;
     ssize_t got;
-    int file = open(path, O_RDONLY | O_NONBLOCK | O_CLOEXEC);
+    int file = file_open_regular(path, &found);
     if (file < 0)
         return;
-    bool is_file = fstat(file, &found) == 0 && S_ISREG(found.st_mode);
-    while (is_file && (got = read(file, look->chunk + kept, CHUNK_BYTES - kept)) > 0) {
+    while ((got = read(file, look->chunk + kept, CHUNK_BYTES - kept)) > 0) {
         size_t length = kept + (size_t)got;
         search_in(&look->search, look->chunk, length, found_text, look);
         kept = length < look->search.longest ? length : look->search.longest - 1;
@@ -128,15 +126,9 @@ static void look_into(struct look *look, const char *path)
     close(file);
 }
 
-static const char *base_of(const char *path)
-{
-    const char *slash = strrchr(path, '/');
-    return slash ? slash + 1 : path;
-}
-
 static void look_at(struct look *look, const char *object)
 {
-    const char *base = base_of(object);
+    const char *base = file_base(object);
     for (size_t i = 0; i < KINDS; i++)
         if (kinds[i].file && regexec(&look->file[i], base, 0, NULL, 0) == 0)
             look->found[i] = true;
