@@ -16,6 +16,7 @@
 #include "ignore.h"
 #include "learn.h"
 #include "allocation.h"
+#include "output.h"
 #include "output_files.h"
 #include "right_orders.h"
 #include "steering_plan.h"
@@ -39,20 +40,6 @@ static void check_ignore(const char *path)
     if (bad)
         refuse("%s: line %lu isn't \"TYPE\" or \"TYPE\" \"TYPE\"", path, bad);
     ignore_end(&ignore);
-}
-
-/* The name of the log, as it would be of this process; %p is the number. */
-static char *log_name(const char *log)
-{
-    char *name = copy("");
-    for (const char *next; (next = strstr(log, "%p")); log = next + 2) {
-        char *longer = say_text("%s%.*s%d", name, (int)(next - log), log, (int)getpid());
-        free(name);
-        name = longer;
-    }
-    char *whole = say_text("%s%s", name, log);
-    free(name);
-    return whole;
 }
 
 static void check_right(const char *path)
@@ -85,7 +72,7 @@ void prepare_files(const struct settings *settings)
     if (learn_is_wanted(settings))
         learn_check(settings);
     if (is_asked(settings->log)) {
-        char *name = log_name(settings->log);
+        char *name = output_name(settings->log, getpid());
         written_check(name);
         free(name);
     }
