@@ -115,7 +115,7 @@ static int run(struct options *options, const char *built, const char *work)
     if (settings->noise)
         prepare_noise(options, records);
     if (!kept_write(settings, work))
-        fail("there is no room for a recording in %s", file_temporary());
+        fail_for_room();
     char *preload = preload_of(options, built, &misfit);
     char **words = options->program;
     if (options->gdb)

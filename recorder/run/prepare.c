@@ -95,7 +95,7 @@ void prepare_hands_over(void)
     removed = NULL;
 }
 
-static _Noreturn void fail_for_room(void)
+void fail_for_room(void)
 {
     fail("there is no room for a recording in %s", file_temporary());
 }
