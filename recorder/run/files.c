@@ -1,8 +1,6 @@
 #include "files.h"
 
 #include <fcntl.h>
-#include <ftw.h>
-#include <stdio.h>
 #include <stdlib.h>
 #include <string.h>
 #include <unistd.h>
@@ -90,16 +88,4 @@ bool file_fill(const char *path, size_t bytes)
         bytes -= (size_t)written;
     }
     return close(file) == 0 && bytes == 0;
-}
-
-static int remove_one(const char *path, const struct stat *found, int kind, struct FTW *at)
-{
-    (void)found, (void)kind, (void)at;
-    remove(path);
-    return 0;
-}
-
-void folder_remove(const char *path)
-{
-    nftw(path, remove_one, 16, FTW_DEPTH | FTW_PHYS);
 }

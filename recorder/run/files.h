@@ -1,5 +1,5 @@
 /*
- * Names of files, regular files that are read, and folders that are gone after use.
+ * Names of files, and regular files that are read.
  */
 #ifndef RECORD_FILES_H
 #define RECORD_FILES_H
@@ -34,8 +34,5 @@ size_t file_read(int file, char *bytes, size_t length);
 
 /* Writes so many zeroes to the file, which is made. */
 bool file_fill(const char *path, size_t bytes);
-
-/* Removes the folder and all that is in it. */
-void folder_remove(const char *path);
 
 #endif

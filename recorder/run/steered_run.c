@@ -19,6 +19,7 @@
 #include "show_run.h"
 #include "sleepers.h"
 #include "steering_plan.h"
+#include "workplace.h"
 
 enum { LOOK = 10000000, UNPROVED = 1000000, CHILDREN_MOST = 256 };
 
