@@ -12,6 +12,7 @@
 #include <time.h>
 #include <unistd.h>
 
+#include "clock.h"
 #include "files.h"
 #include "interrupts.h"
 #include "allocation.h"
@@ -129,13 +130,6 @@ bool steered_hangs(struct process *process, long long since, long long now)
 }
 
 /* Running it. */
-
-static long long microseconds(void)
-{
-    struct timespec now;
-    clock_gettime(CLOCK_MONOTONIC, &now);
-    return now.tv_sec * 1000000LL + now.tv_nsec / 1000;
-}
 
 /* A file that `record` reads from is read from its beginning; anything else can't be read twice. */
 static void take_input(void)
