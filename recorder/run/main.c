@@ -31,7 +31,6 @@
 #include "show.h"
 #include "process_view.h"
 #include "steered_run.h"
-#include "usage.h"
 #include "verdict.h"
 #include "workplace.h"
 

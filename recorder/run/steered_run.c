@@ -13,7 +13,6 @@
 #include <unistd.h>
 
 #include "clock.h"
-#include "files.h"
 #include "interrupts.h"
 #include "allocation.h"
 #include "prepare.h"

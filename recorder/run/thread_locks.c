@@ -1,6 +1,5 @@
 #include "thread_locks.h"
 
-#include <dirent.h>
 #include <stdlib.h>
 #include <string.h>
 
