@@ -67,13 +67,13 @@ struct run {
     size_t libraries, library_room;
     unsigned long *matched; /* lines of the ignore file that name types */
     size_t matches, matched_room;
-    struct told *told; /* reports that were told (equal.c) */
+    struct told *told; /* reports that were told (equal_reports.c) */
     size_t tolds, told_room;
     struct followed *followed; /* streams that were read while the program ran (follow.c) */
     size_t followeds, followed_room;
     long long follow_next;    /* when they are looked at again, in microseconds */
     struct findings findings; /* for files that were asked for, and for reports to be confirmed */
-    struct watched *watched;  /* of a steered run (steered.h); NULL of any other */
+    struct watched *watched;  /* of a steered run (steered_run.h); NULL of any other */
 };
 
 struct process {

@@ -12,7 +12,7 @@
 #include "settings.h"
 #include "stream_file.h"
 
-/* Holds the symbol tools' children, one for each object, and what they answered: for all files of a run. */
+/* What is known of objects (symbols.h), the ignore file, and the lists of right orders: for all files of a run. */
 struct resolver;
 
 struct resolver *resolver_new(const struct settings *settings);
