@@ -1,7 +1,6 @@
 /* What a program says to the library (libwitness.h). */
 #include "judge.h"
 #include "libwitness.h"
-#include "report_action.h"
 
 EXPORT int witness_start(void)
 {

@@ -9,8 +9,6 @@
 #include "report_action.h"
 #include "lock_lines.h"
 
-#include <string.h>
-
 struct question {
     enum witness_kind kind;
     const char *text;

@@ -11,7 +11,6 @@
 #include "report_action.h"
 #include "lock_lines.h"
 
-#include <stdlib.h>
 #include <string.h>
 #include <unistd.h>
 

@@ -12,7 +12,6 @@
 #include "report_action.h"
 #include "lock_lines.h"
 
-#include <stdlib.h>
 #include <string.h>
 
 /*

@@ -1,12 +1,10 @@
 /* What a program asks to be shown (witness_show): which locks are held, as the verifier and the mutexes themselves say. */
-#include "judge.h"
 #include "judge_place.h"
 #include "libwitness.h"
 #include "names.h"
 #include "lock_lines.h"
 
 #include <errno.h>
-#include <string.h>
 #include <unistd.h>
 
 enum { MORE_HELD = 1 << 16 };

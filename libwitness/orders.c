@@ -2,10 +2,8 @@
  * What a program says of orders and of watching, and asks to be shown. An order may be named before its locks are
  * known: it is defined when both have a number in the stream.
  */
-#include "judge.h"
 #include "judge_place.h"
 #include "libwitness.h"
-#include "report_action.h"
 
 enum { WANTED_MOST = 1024, FIRST = 0, SECOND = 1 };
 

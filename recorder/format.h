@@ -79,8 +79,8 @@ enum { ASKED_AT = 6, ASKED_NOT = '0', ASKED_NOW = '1', ASKED_ALWAYS = '3' };
     EACH(ERROR_REREAD, "reread")
 
 /*
- * The pairs of single locks (single_pairs.c), and when threads were made and joined (singles.c). A thread tells of its pair
- * again when it has made another thread; so often it tells of it at most.
+ * The pairs of single locks (single_pairs.c), and when threads were made and joined (thread_lives.c). A thread tells of its
+ * pair again when it has made another thread; so often it tells of it at most.
  */
 #define PAIR_TELLINGS 8
 #define WORD_PAIR "pair"

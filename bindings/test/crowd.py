@@ -1,7 +1,6 @@
 """A hundred threads that take the same locks, each in its way, and let go of them as it comes; what they count is right."""
 
 import threading
-import time
 
 import witness
 

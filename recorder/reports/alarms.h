@@ -1,6 +1,7 @@
 /*
  * How much a report is to be feared: whether single locks of its types were taken both ways, by which threads, and what
- * keeps these apart. `witness grade` says it (grades.h). Here are the words for it, and which of them count for the status.
+ * keeps these apart. `witness findings` says it (grades.h). Here are the words for it, and which of them count for the
+ * status.
  */
 #ifndef RECORD_ALARMS_H
 #define RECORD_ALARMS_H

@@ -1,12 +1,11 @@
 #include "sources.h"
 
-#include <fcntl.h>
 #include <stdio.h>
 #include <stdlib.h>
 #include <string.h>
-#include <sys/stat.h>
 #include <unistd.h>
 
+#include "files.h"
 #include "map.h"
 #include "allocation.h"
 #include "place.h"
@@ -91,17 +90,13 @@ static char *own_name(const struct sources *sources, const char *file)
     return name;
 }
 
-/* Its name may be that of anything by now: nothing is waited for, and only a plain file is read. */
 static FILE *open_source(const struct sources *sources, const char *name, struct stat *found)
 {
     char *path = path_of(sources, name);
-    int file = open(path, O_RDONLY | O_NONBLOCK | O_NOCTTY | O_CLOEXEC);
+    int file = file_open_regular(path, found);
     free(path);
-    if (file < 0)
-        return NULL;
-    bool is_good = fstat(file, found) == 0 && S_ISREG(found->st_mode) && found->st_size <= FILE_MOST;
-    FILE *source = is_good ? fdopen(file, "r") : NULL;
-    if (!source)
+    FILE *source = file >= 0 && found->st_size <= FILE_MOST ? fdopen(file, "r") : NULL;
+    if (!source && file >= 0)
         close(file);
     return source;
 }

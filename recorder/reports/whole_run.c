@@ -4,8 +4,10 @@
 #include <stdlib.h>
 #include <string.h>
 
+#include "ignore.h"
 #include "libdw.h"
 #include "missed_calls.h"
+#include "resolve.h"
 
 static const char little_room[] = "a full disk, or a limit on the size of files";
 
@@ -89,17 +91,10 @@ static bool is_matched(const struct run *run, unsigned long number)
 
 void tell_unmatched(struct run *run)
 {
-    char *line = NULL;
-    size_t room = 0;
-    unsigned long number = 0;
-    FILE *ignore = is_asked(run->settings.ignore) ? fopen(run->settings.ignore, "re") : NULL;
-    while (ignore && getline(&line, &room, ignore) >= 0) {
-        line[strcspn(line, "\n")] = '\0';
-        number++;
-        if (*line != '#' && line[strspn(line, " \t")] != '\0' && !is_matched(run, number))
-            say(&run->output, "%s: line %lu matched nothing: %s", run->settings.ignore, number, line);
+    const struct ignore *ignore = resolver_ignore(run->resolver);
+    for (size_t i = 0; i < ignore->lines; i++) {
+        const struct ignore_line *line = &ignore->line[i];
+        if (!is_matched(run, line->number))
+            say(&run->output, "%s: line %lu matched nothing: %s", run->settings.ignore, line->number, line->text);
     }
-    if (ignore)
-        fclose(ignore);
-    free(line);
 }

@@ -3,9 +3,9 @@
 #include <stdlib.h>
 #include <string.h>
 #include <sys/stat.h>
-#include <time.h>
 #include <unistd.h>
 
+#include "clock.h"
 #include "confirm_words.h"
 #include "describe.h"
 #include "allocation.h"
@@ -20,8 +20,8 @@ struct confirming {
     struct run *run;
     struct subject *subject;
     size_t subjects;
-    double end_at;
-    unsigned number; /* of steered runs so far */
+    long long end_at; /* in microseconds */
+    unsigned number;  /* of steered runs so far */
 };
 
 bool confirm_is_wanted(const struct settings *settings)
@@ -32,13 +32,6 @@ bool confirm_is_wanted(const struct settings *settings)
 bool confirm_is_any(const struct settings *settings)
 {
     return settings->confirm > 0 || is_asked(settings->confirm_from);
-}
-
-static double seconds_now(void)
-{
-    struct timespec now;
-    clock_gettime(CLOCK_MONOTONIC, &now);
-    return (double)now.tv_sec + (double)now.tv_nsec / 1e9;
 }
 
 /* Whether all that hangs are locks of the report's types. */
@@ -64,7 +57,7 @@ static struct subject *hung(const struct confirming *confirming, struct subject 
 /* A program that goes on for good leaves time for others. */
 static double seconds_for_run(const struct confirming *confirming)
 {
-    double left = confirming->end_at - seconds_now();
+    double left = (double)(confirming->end_at - microseconds()) / 1e6;
     return left / 2 > LEAST_SECONDS ? left / 2 : left;
 }
 
@@ -109,7 +102,7 @@ static void try(struct confirming *confirming, struct subject *subject)
 {
     struct counted *counted = take(sizeof *counted);
     struct confirmed *confirmed = subject->confirmed;
-    while (subject->planned && confirmed->runs < subject->runs && !confirmed->run && seconds_now() < confirming->end_at) {
+    while (subject->planned && confirmed->runs < subject->runs && !confirmed->run && microseconds() < confirming->end_at) {
         struct steered steered = steer(confirming, subject, counted);
         struct subject *of = hung(confirming, subject, &steered.hang);
         if (steered.how == STEERED_HUNG && !of)
@@ -131,7 +124,7 @@ static void tell_begin(const struct run *run)
 
 void confirm_subjects(struct run *run, struct subject *subject, size_t count)
 {
-    struct confirming confirming = {run, subject, count, seconds_now() + run->settings.confirm_seconds, 0};
+    struct confirming confirming = {run, subject, count, microseconds() + run->settings.confirm_seconds * 1000000LL, 0};
     if (count > 0)
         tell_begin(run);
     for (size_t i = 0; i < count; i++) {

@@ -8,9 +8,10 @@
 #include "circle.h"
 #include "follow.h"
 #include "allocation.h"
+#include "option_words.h"
 #include "report_text.h"
 
-enum { SECOND = 1000000, WATCHED_FOR = 100000, STATUS_MOST = 255 };
+enum { SECOND = 1000000, WATCHED_FOR = 100000 };
 
 bool deadlock_is_due(const struct deadlock *deadlock, long long now)
 {
@@ -168,13 +169,6 @@ void deadlock_look(struct process *process, struct deadlock *deadlock, long long
 
 bool deadlock_word(const char *word, int *status)
 {
-    char *end;
-    *status = 0;
-    if (strcmp(word, "tell") == 0 || strcmp(word, "kill") == 0)
-        return true;
-    if (strncmp(word, "exit=", 5) != 0 || word[5] < '1' || word[5] > '9')
-        return false;
-    long number = strtol(word + 5, &end, 10);
-    *status = (int)number;
-    return *end == '\0' && number <= STATUS_MOST;
+    *status = strcmp(word, "tell") == 0 || strcmp(word, "kill") == 0 ? 0 : exit_word(word);
+    return *status >= 0;
 }

@@ -1,11 +1,8 @@
 #include "files.h"
 
 #include <fcntl.h>
-#include <ftw.h>
-#include <stdio.h>
 #include <stdlib.h>
 #include <string.h>
-#include <sys/stat.h>
 #include <unistd.h>
 
 #include "allocation.h"
@@ -60,6 +57,24 @@ const char *file_temporary(void)
     return folder && *folder ? folder : "/tmp";
 }
 
+int file_open_regular(const char *path, struct stat *found)
+{
+    int file = open(path, O_RDONLY | O_NONBLOCK | O_NOCTTY | O_CLOEXEC);
+    if (file >= 0 && fstat(file, found) == 0 && S_ISREG(found->st_mode))
+        return file;
+    if (file >= 0)
+        close(file);
+    return -1;
+}
+
+size_t file_read(int file, char *bytes, size_t length)
+{
+    size_t got = 0;
+    for (ssize_t more; got < length && (more = read(file, bytes + got, length - got)) > 0;)
+        got += (size_t)more;
+    return got;
+}
+
 bool file_fill(const char *path, size_t bytes)
 {
     static const char zeroes[1 << 16];
@@ -73,16 +88,4 @@ bool file_fill(const char *path, size_t bytes)
         bytes -= (size_t)written;
     }
     return close(file) == 0 && bytes == 0;
-}
-
-static int remove_one(const char *path, const struct stat *found, int kind, struct FTW *at)
-{
-    (void)found, (void)kind, (void)at;
-    remove(path);
-    return 0;
-}
-
-void folder_remove(const char *path)
-{
-    nftw(path, remove_one, 16, FTW_DEPTH | FTW_PHYS);
 }

@@ -1,11 +1,12 @@
 /*
- * Names of files, and folders that are gone after use.
+ * Names of files, and regular files that are read.
  */
 #ifndef RECORD_FILES_H
 #define RECORD_FILES_H
 
 #include <stdbool.h>
 #include <stddef.h>
+#include <sys/stat.h>
 
 /* What stands after the last slash. */
 const char *file_base(const char *path);
@@ -22,10 +23,16 @@ bool file_is_command(const char *program);
 /* The folder for files of the moment. */
 const char *file_temporary(void);
 
+/*
+ * Opens the file to be read, and says of what sort it is. -1 where it can't be, or is no regular file: the name may be that of
+ * anything by now, and nothing is waited for.
+ */
+int file_open_regular(const char *path, struct stat *found);
+
+/* Reads up to so many bytes. The answer is how many there are. */
+size_t file_read(int file, char *bytes, size_t length);
+
 /* Writes so many zeroes to the file, which is made. */
 bool file_fill(const char *path, size_t bytes);
-
-/* Removes the folder and all that is in it. */
-void folder_remove(const char *path);
 
 #endif

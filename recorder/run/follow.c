@@ -3,9 +3,9 @@
 #include <fcntl.h>
 #include <stdlib.h>
 #include <string.h>
-#include <time.h>
 #include <unistd.h>
 
+#include "clock.h"
 #include "deadlock_watch.h"
 #include "allocation.h"
 #include "live_verdict.h"
@@ -96,13 +96,6 @@ static bool has_grown(const char *path, size_t length)
     bool is_there = pread(file, &byte, 1, (off_t)length) == 1 && byte != 0;
     close(file);
     return is_there;
-}
-
-static long long microseconds(void)
-{
-    struct timespec now;
-    clock_gettime(CLOCK_MONOTONIC, &now);
-    return now.tv_sec * 1000000LL + now.tv_nsec / 1000;
 }
 
 /* Tells what the stream has by now. */

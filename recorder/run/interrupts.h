@@ -5,8 +5,6 @@
 #ifndef RECORD_INTERRUPTS_H
 #define RECORD_INTERRUPTS_H
 
-#include <stdbool.h>
-
 /* From here on INT, TERM and HUP are only noted. Those that are ignored stay so. */
 void interrupts_catch(void);
 

@@ -1,5 +1,6 @@
 #include "json_read.h"
 
+#include <stdbool.h>
 #include <stdlib.h>
 #include <string.h>
 

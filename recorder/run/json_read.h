@@ -4,8 +4,6 @@
 #ifndef RECORD_JSON_READ_H
 #define RECORD_JSON_READ_H
 
-#include <stdbool.h>
-
 #include "texts.h"
 
 struct value {

@@ -18,12 +18,13 @@
 #include <time.h>
 #include <unistd.h>
 
+#include "clock.h"
 #include "interrupts.h"
 #include "allocation.h"
 #include "usage.h"
 
-/* How many milliseconds what the program has left running is waited for. */
-enum { MOMENT = 1000 };
+/* How many microseconds what the program has left running is waited for. */
+enum { MOMENT = 1000000 };
 
 /* How many nanoseconds lie between two looks at what the program does. */
 enum { LOOK = 20000000 };
@@ -97,25 +98,18 @@ static int wait_for(pid_t program, const sigset_t *set, struct run *run, bool fo
     }
 }
 
-static long milliseconds(void)
-{
-    struct timespec now;
-    clock_gettime(CLOCK_MONOTONIC, &now);
-    return now.tv_sec * 1000 + now.tv_nsec / 1000000;
-}
-
 /* Waits a moment for what the program has left running, or until a signal comes. Whether something goes on. */
 static bool goes_on(const sigset_t *set)
 {
-    long end = milliseconds() + MOMENT;
+    long long end = microseconds() + MOMENT;
     for (;;) {
         pid_t child;
         while ((child = waitpid(-1, NULL, WNOHANG)) > 0)
             ;
         if (child < 0)
             return false;
-        long left = end - milliseconds();
-        struct timespec time = {left / 1000, left % 1000 * 1000000};
+        long long left = end - microseconds();
+        struct timespec time = {left / 1000000, left % 1000000 * 1000};
         int number = left > 0 ? sigtimedwait(set, NULL, &time) : 0;
         if (left <= 0 || (number > 0 && number != SIGCHLD))
             return true;

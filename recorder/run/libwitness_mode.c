@@ -6,21 +6,18 @@
 
 #include "files.h"
 #include "allocation.h"
+#include "option_words.h"
 #include "usage.h"
 
-enum { STATUS_MOST = 255, DEBUGGER_WORDS = 14 };
+enum { DEBUGGER_WORDS = 14 };
 
 bool inside_word(const char *word)
 {
     static const char *const known[] = {"tell", "stop", "trap", "abort"};
-    char *end;
     for (size_t i = 0; i < sizeof known / sizeof *known; i++)
         if (strcmp(word, known[i]) == 0)
             return true;
-    if (strncmp(word, "exit=", 5) != 0 || word[5] < '1' || word[5] > '9')
-        return false;
-    long number = strtol(word + 5, &end, 10);
-    return *end == '\0' && number <= STATUS_MOST;
+    return exit_word(word) > 0;
 }
 
 bool inside_is_wanted(const struct options *options)

@@ -31,7 +31,6 @@
 #include "show.h"
 #include "process_view.h"
 #include "steered_run.h"
-#include "usage.h"
 #include "verdict.h"
 #include "workplace.h"
 
@@ -115,7 +114,7 @@ static int run(struct options *options, const char *built, const char *work)
     if (settings->noise)
         prepare_noise(options, records);
     if (!kept_write(settings, work))
-        fail("there is no room for a recording in %s", file_temporary());
+        fail_for_room();
     char *preload = preload_of(options, built, &misfit);
     char **words = options->program;
     if (options->gdb)

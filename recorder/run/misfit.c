@@ -1,12 +1,9 @@
 #include "misfit.h"
 
 #include <elf.h>
-#include <fcntl.h>
 #include <stdint.h>
-#include <stdio.h>
 #include <stdlib.h>
 #include <string.h>
-#include <sys/stat.h>
 #include <unistd.h>
 
 #include "files.h"
@@ -19,21 +16,6 @@ struct head {
     size_t length;
     char bytes[HEAD + 1]; /* a zero follows */
 };
-
-static bool read_head(const char *path, struct head *head)
-{
-    int file = open(path, O_RDONLY | O_CLOEXEC);
-    ssize_t got = 1;
-    head->length = 0;
-    while (file >= 0 && got > 0 && head->length < HEAD) {
-        got = read(file, head->bytes + head->length, HEAD - head->length);
-        head->length += got > 0 ? (size_t)got : 0;
-    }
-    if (file >= 0)
-        close(file);
-    memset(head->bytes + head->length, 0, sizeof head->bytes - head->length);
-    return file >= 0;
-}
 
 /* So many bytes of the head; false where they don't stand in it. */
 static bool get(const struct head *head, uint64_t at, void *to, size_t bytes)
@@ -90,9 +72,14 @@ static char *interpreter_of(const struct head *head)
 static bool read_program(const char *program, struct stat *found, struct head *head)
 {
     char *path = file_of(program);
-    bool is_read = path && stat(path, found) == 0 && S_ISREG(found->st_mode) && read_head(path, head);
+    int file = path ? file_open_regular(path, found) : -1;
     free(path);
-    return is_read;
+    if (file < 0)
+        return false;
+    head->length = file_read(file, head->bytes, HEAD);
+    memset(head->bytes + head->length, 0, sizeof head->bytes - head->length);
+    close(file);
+    return true;
 }
 
 static struct misfit misfit_below(const char *program, struct head *head, int depth)

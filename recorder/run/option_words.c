@@ -81,6 +81,12 @@ const char *after_beginning(const char *word, const char *beginning)
     return strncmp(word, beginning, length) == 0 ? word + length : NULL;
 }
 
+int exit_word(const char *word)
+{
+    const char *number = after_beginning(word, "exit=");
+    return number ? number_up_to(number, 255) : -1;
+}
+
 const char *words_in_line(char **words)
 {
     static const char plain[] = "ABCDEFGHIJKLMNOPQRSTUVWXYZabcdefghijklmnopqrstuvwxyz0123456789_-+=./,:@%";

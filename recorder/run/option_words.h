@@ -9,6 +9,9 @@
 /* The number that the word is, without a sign or zeroes before it; -1 where it isn't one from 1 to `most`. */
 int number_up_to(const char *word, int most);
 
+/* The N of exit=N; -1 where the word is none from 1 to 255. */
+int exit_word(const char *word);
+
 /* The number that the variable of the environment has; the usual one where it has none. Others are refused. */
 int number_in_environment(const char *name, int most, int usual);
 

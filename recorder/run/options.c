@@ -21,25 +21,6 @@
 
 enum { FRAMES_MOST = 16, FRAMES_USUAL = 8, DEPTH_MOST = 4, DEPTH_USUAL = 2 };
 
-static void take_keep(struct options *options, const char *word)
-{
-    options->settings.keep = word;
-}
-
-static void take_depth(struct options *options, const char *word)
-{
-    options->depth = number_up_to(word, DEPTH_MOST);
-    if (options->depth < 0)
-        refuse("--depth is 1 to 4, not %s", word);
-}
-
-static void take_frames(struct options *options, const char *word)
-{
-    options->settings.frames = number_up_to(word, FRAMES_MOST);
-    if (options->settings.frames < 0)
-        refuse("--frames is 1 to 16, not %s", word);
-}
-
 static void take_brief(struct options *options, const char *word)
 {
     (void)word;
@@ -52,24 +33,6 @@ static void take_verbose(struct options *options, const char *word)
     (void)word;
     options->held = true;
     options->settings.frames = number_in_environment("RECORD_FRAMES", FRAMES_MOST, FRAMES_MOST);
-}
-
-static void take_held(struct options *options, const char *word)
-{
-    (void)word;
-    options->held = true;
-}
-
-static void take_semaphores(struct options *options, const char *word)
-{
-    (void)word;
-    options->semaphores = true;
-}
-
-static void take_blocks(struct options *options, const char *word)
-{
-    (void)word;
-    options->blocks = true;
 }
 
 static void take_skip(struct options *options, const char *word)
@@ -93,39 +56,10 @@ static void take_ignore(struct options *options, const char *word)
         options->settings.ignore = word;
 }
 
-static void take_error(struct options *options, const char *word)
-{
-    options->settings.error = number_up_to(word, 255);
-    if (options->settings.error < 0)
-        refuse("--error-exitcode is 1 to 255, not %s", word);
-}
-
-static void take_learn(struct options *options, const char *word)
-{
-    options->settings.learn = word;
-}
-
-static void take_right(struct options *options, const char *word)
-{
-    options->settings.right = word;
-}
-
 static void take_no_right(struct options *options, const char *word)
 {
     (void)word;
     options->settings.right = "-";
-}
-
-static void take_known(struct options *options, const char *word)
-{
-    options->settings.known = word;
-}
-
-static void take_new(struct options *options, const char *word)
-{
-    options->settings.new_error = number_up_to(word, 255);
-    if (options->settings.new_error < 0)
-        refuse("--new-exitcode is 1 to 255, not %s", word);
 }
 
 static void take_run_name(struct options *options, const char *word)
@@ -142,38 +76,6 @@ static void take_graph(struct options *options, const char *word)
 {
     graph_check(word);
     options->settings.graph = word;
-}
-
-static void take_html(struct options *options, const char *word)
-{
-    options->settings.html = word;
-}
-
-static void take_sarif(struct options *options, const char *word)
-{
-    options->settings.sarif = word;
-}
-
-static void take_json(struct options *options, const char *word)
-{
-    options->settings.json = word;
-}
-
-static void take_log(struct options *options, const char *word)
-{
-    options->settings.log = word;
-}
-
-static void take_suppressions(struct options *options, const char *word)
-{
-    (void)word;
-    options->settings.suppressions = true;
-}
-
-static void take_judge(struct options *options, const char *word)
-{
-    (void)word;
-    options->settings.judge = true;
 }
 
 static void take_alarms(struct options *options, const char *word)
@@ -201,16 +103,6 @@ static void take_confirm_time(struct options *options, const char *word)
     options->settings.confirm_seconds = number_up_to(word, 9999);
     if (options->settings.confirm_seconds < 0)
         refuse("the time of --confirm is 1 to 9999 seconds, not %s", word);
-}
-
-static void take_confirm_from(struct options *options, const char *word)
-{
-    options->settings.confirm_from = *word ? word : NULL;
-}
-
-static void take_before(struct options *options, const char *word)
-{
-    options->settings.before = *word ? word : NULL;
 }
 
 static void take_noise(struct options *options, const char *word)
@@ -247,7 +139,7 @@ static void take_confirm(struct options *options, const char *words)
         end = file ? at + strlen(at) : at + strcspn(at, ",");
         char *word = copy_bytes(at, (size_t)(end - at));
         if (file)
-            take_confirm_from(options, file);
+            options->settings.confirm_from = *file ? file : NULL;
         else
             take_confirm_word(options, word);
         free(word);
@@ -285,27 +177,6 @@ static void take_colour(struct options *options, const char *word)
         refuse("--color is auto, always or never, not %s", word);
 }
 
-static void take_quiet(struct options *options, const char *word)
-{
-    (void)word;
-    options->settings.quiet = true;
-}
-
-static void take_target(struct options *options, const char *word)
-{
-    options->target = *word ? word : NULL;
-}
-
-static void take_trace(struct options *options, const char *word)
-{
-    options->trace = *word ? word : NULL;
-}
-
-static void take_clean(struct options *options, const char *word)
-{
-    options->clean = *word ? word : NULL;
-}
-
 static void take_help(struct options *options, const char *word)
 {
     (void)word;
@@ -330,63 +201,78 @@ struct option {
      * or not at all.
      */
     enum { ALONE, WORD, OUTPUT, INPUT, MAYBE } after;
+    /*
+     * What it does: it calls `take`; or a flag, a text, or a number up to `most` goes to that place of the options. FILLED is
+     * a text of which the empty one is none.
+     */
+    enum { GONE, CALL, FLAG, TEXT, FILLED, NUMBER } kind;
     void (*take)(struct options *options, const char *word);
+    size_t place;
+    int most;
 };
+
+#define CALL(function) CALL, .take = (function)
+#define PLACE(field) .place = offsetof(struct options, field)
+#define FLAG(field) FLAG, PLACE(field)
+#define TEXT(field) TEXT, PLACE(field)
+#define FILLED(field) FILLED, PLACE(field)
+#define NUMBER(field, bound) NUMBER, PLACE(field), .most = (bound)
 
 static const struct option known[] = {
-    {"-o", OUTPUT, take_keep},
-    {"--log-file", OUTPUT, take_log},
-    {"--html", OUTPUT, take_html},
-    {"--sarif", OUTPUT, take_sarif},
-    {"--json", OUTPUT, take_json},
-    {"--brief", ALONE, take_brief},
-    {"--verbose", ALONE, take_verbose},
-    {"--quiet", ALONE, take_quiet},
-    {"--color", MAYBE, take_colour},
-    {"--error-exitcode", WORD, take_error},
-    {"--alarms", WORD, take_alarms},
-    {"--ignore", INPUT, take_ignore},
-    {"--gen-suppressions", ALONE, take_suppressions},
-    {"--learn", OUTPUT, take_learn},
-    {"--known", INPUT, take_known},
-    {"--confirm", MAYBE, take_confirm},
-    {"--on-deadlock", WORD, take_deadlock},
-    {"--on-report", WORD, take_on_report},
-    {"--skip", WORD, take_skip},
-    {"--semaphores", ALONE, take_semaphores},
-    {"--blocks", ALONE, take_blocks},
-    {"--show", INPUT, take_target},
-    {"--help", ALONE, take_help},
-    {"-h", ALONE, take_help},
-    {"--version", ALONE, take_version},
+    {"-o", OUTPUT, TEXT(settings.keep)},
+    {"--log-file", OUTPUT, TEXT(settings.log)},
+    {"--html", OUTPUT, TEXT(settings.html)},
+    {"--sarif", OUTPUT, TEXT(settings.sarif)},
+    {"--json", OUTPUT, TEXT(settings.json)},
+    {"--brief", ALONE, CALL(take_brief)},
+    {"--verbose", ALONE, CALL(take_verbose)},
+    {"--quiet", ALONE, FLAG(settings.quiet)},
+    {"--color", MAYBE, CALL(take_colour)},
+    {"--error-exitcode", WORD, NUMBER(settings.error, 255)},
+    {"--alarms", WORD, CALL(take_alarms)},
+    {"--ignore", INPUT, CALL(take_ignore)},
+    {"--gen-suppressions", ALONE, FLAG(settings.suppressions)},
+    {"--learn", OUTPUT, TEXT(settings.learn)},
+    {"--known", INPUT, TEXT(settings.known)},
+    {"--confirm", MAYBE, CALL(take_confirm)},
+    {"--on-deadlock", WORD, CALL(take_deadlock)},
+    {"--on-report", WORD, CALL(take_on_report)},
+    {"--skip", WORD, CALL(take_skip)},
+    {"--semaphores", ALONE, FLAG(semaphores)},
+    {"--blocks", ALONE, FLAG(blocks)},
+    {"--show", INPUT, FILLED(target)},
+    {"--help", ALONE, CALL(take_help)},
+    {"-h", ALONE, CALL(take_help)},
+    {"--version", ALONE, CALL(take_version)},
 };
 
-/* Options of earlier versions, and what is to be used in their place. Those that are no more have no `take`. */
+/* Options of earlier versions, and what is to be used in their place. Those of the kind GONE are no more. */
 static const struct earlier {
     struct option option;
     const char *instead;
 } earlier[] = {
-    {{"--depth", WORD, take_depth}, "RECORDER_DEPTH=N in the environment"},
-    {{"--frames", WORD, take_frames}, "--brief, --verbose, or RECORD_FRAMES=N in the environment"},
-    {{"--held-callers", ALONE, take_held}, "--verbose"},
-    {{"--default-ignore", INPUT, take_right}, "--ignore FILE"},
-    {{"--no-default-ignore", ALONE, take_no_right}, "--ignore none"},
-    {{"--new-exitcode", WORD, take_new}, "orders known --new-exitcode N FILE -- PROGRAM"},
-    {{"--run-name", WORD, take_run_name}, "orders learn --run-name NAME FILE -- PROGRAM"},
-    {{"--program-name", WORD, take_program_name}, "orders learn --program-name NAME FILE -- PROGRAM"},
-    {{"--graph", OUTPUT, take_graph}, "--html FILE, a page with the pictures"},
-    {{"--judge", ALONE, take_judge}, "-o TRACE, and then witness migrate <TRACE"},
-    {{"--confirm-time", WORD, take_confirm_time}, "--confirm=time=SECONDS"},
-    {{"--confirm-from", INPUT, take_confirm_from}, "--confirm=from=FILE"},
-    {{"--before", WORD, take_before}, "-- sh -c 'COMMAND; exec PROGRAM'"},
-    {{"--noise", MAYBE, take_noise}, "--confirm=noise"},
-    {{"--errors", WORD, take_errors}, "--alarms no-errors"},
-    {{"--gdb", ALONE, take_gdb}, "--on-report gdb"},
-    {{"--trace", INPUT, take_trace}, "-o TRACE --show FILE"},
-    {{"--clean", INPUT, take_clean}, "witness clean <FILE"},
-    {{"--completion", WORD, take_completion}, "tools/completion, or what tools/install puts under share"},
-    {{"--full", ALONE, NULL}, "what is left out changes no verdict"},
-    {{"--profile", WORD, NULL}, "a request is compared with all locks that its thread holds, always"},
+    {{"--depth", WORD, NUMBER(depth, DEPTH_MOST)}, "RECORDER_DEPTH=N in the environment"},
+    {{"--frames", WORD, NUMBER(settings.frames, FRAMES_MOST)},
+        "--brief, --verbose, or RECORD_FRAMES=N in the environment"},
+    {{"--held-callers", ALONE, FLAG(held)}, "--verbose"},
+    {{"--default-ignore", INPUT, TEXT(settings.right)}, "--ignore FILE"},
+    {{"--no-default-ignore", ALONE, CALL(take_no_right)}, "--ignore none"},
+    {{"--new-exitcode", WORD, NUMBER(settings.new_error, 255)}, "orders known --new-exitcode N FILE -- PROGRAM"},
+    {{"--run-name", WORD, CALL(take_run_name)}, "orders learn --run-name NAME FILE -- PROGRAM"},
+    {{"--program-name", WORD, CALL(take_program_name)}, "orders learn --program-name NAME FILE -- PROGRAM"},
+    {{"--graph", OUTPUT, CALL(take_graph)}, "--html FILE, a page with the pictures"},
+    {{"--judge", ALONE, FLAG(settings.judge)}, "-o TRACE, and then witness migrate <TRACE"},
+    {{"--confirm-time", WORD, CALL(take_confirm_time)}, "--confirm=time=SECONDS"},
+    {{"--confirm-from", INPUT, FILLED(settings.confirm_from)}, "--confirm=from=FILE"},
+    {{"--before", WORD, FILLED(settings.before)}, "-- sh -c 'COMMAND; exec PROGRAM'"},
+    {{"--noise", MAYBE, CALL(take_noise)}, "--confirm=noise"},
+    {{"--errors", WORD, CALL(take_errors)}, "--alarms no-errors"},
+    {{"--gdb", ALONE, CALL(take_gdb)}, "--on-report gdb"},
+    {{"--trace", INPUT, FILLED(trace)}, "-o TRACE --show FILE"},
+    {{"--clean", INPUT, FILLED(clean)}, "witness clean <FILE"},
+    {{"--completion", WORD, CALL(take_completion)}, "tools/completion, or what tools/install puts under share"},
+    {{"--full", ALONE, .kind = GONE}, "what is left out changes no verdict"},
+    {{"--profile", WORD, .kind = GONE}, "a request is compared with all locks that its thread holds, always"},
 };
 
 static void take_completion(struct options *options, const char *word)
@@ -417,7 +303,7 @@ static const struct option *option_of_earlier(const char *word, bool is_told)
         const struct option *option = &earlier[i].option;
         if (!is_option(option, word))
             continue;
-        if (!option->take)
+        if (option->kind == GONE)
             refuse("%s is gone: %s", option->name, earlier[i].instead);
         if (is_told)
             fprintf(stderr, "record: %s goes: use %s\n", option->name, earlier[i].instead);
@@ -434,6 +320,23 @@ static const struct option *option_of(const char *word, bool is_told)
     return option_of_earlier(word, is_told);
 }
 
+/* `word` is what stands after the option, NULL where there is nothing. */
+static void follow_option(struct options *options, const struct option *option, const char *word)
+{
+    void *place = (char *)options + option->place;
+    int number = option->kind == NUMBER ? number_up_to(word, option->most) : 0;
+    if (number < 0)
+        refuse("%s is 1 to %d, not %s", option->name, option->most, word);
+    if (option->kind == CALL)
+        option->take(options, word);
+    else if (option->kind == FLAG)
+        *(bool *)place = true;
+    else if (option->kind == NUMBER)
+        *(int *)place = number;
+    else
+        *(const char **)place = option->kind == FILLED && !*word ? NULL : word;
+}
+
 /* Reads the options. The answer is the first word that is none. Of those before `told` nothing is told. */
 static char **read_options(struct options *options, char **words, char *const *told)
 {
@@ -443,14 +346,14 @@ static char **read_options(struct options *options, char **words, char *const *t
         const struct option *option = option_of(*words, words >= told);
         if (option->after == ALONE || option->after == MAYBE) {
             const char *equals = strchr(*words, '=');
-            option->take(options, equals ? equals + 1 : NULL);
+            follow_option(options, option, equals ? equals + 1 : NULL);
             continue;
         }
         if (!words[1])
             refuse("%s needs a word after it", *words);
         if (option->after == OUTPUT)
             written_name_check(*words, words[1]);
-        option->take(options, *++words);
+        follow_option(options, option, *++words);
     }
     return words;
 }

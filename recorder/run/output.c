@@ -11,30 +11,23 @@
 #include "output_files.h"
 #include "write_all.h"
 
-/* The log's name with the process's number for each %p. */
-static char *log_name(const char *log, long process)
+char *output_name(const char *log, long process)
 {
-    char *name = NULL;
-    size_t length = 0;
-    FILE *to = open_memstream(&name, &length);
-    if (!to)
-        return copy(log);
-    for (const char *at = log; *at; at++) {
-        if (at[0] == '%' && at[1] == 'p') {
-            fprintf(to, "%ld", process);
-            at++;
-        } else {
-            fputc(*at, to);
-        }
+    char *name = copy("");
+    for (const char *next; (next = strstr(log, "%p")); log = next + 2) {
+        char *longer = say_text("%s%.*s%ld", name, (int)(next - log), log, process);
+        free(name);
+        name = longer;
     }
-    fclose(to);
-    return name;
+    char *whole = say_text("%s%s", name, log);
+    free(name);
+    return whole;
 }
 
 /* What can't be written to the log stays on standard error. The children of this process write to the log, too. */
 static void open_log(const char *log, long process, enum written_from from)
 {
-    char *name = log_name(log, process);
+    char *name = output_name(log, process);
     int file = written_open(name, from);
     if (file >= 0) {
         dup2(file, STDERR_FILENO);

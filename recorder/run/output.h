@@ -17,6 +17,9 @@ struct output {
     void *by;
 };
 
+/* The log's name with the process's number for each %p, a text of one's own. */
+char *output_name(const char *log, long process);
+
 /* The log is begun anew, unless each process has one of its own. */
 void output_begin(struct output *output, const char *log, long process);
 

@@ -13,12 +13,15 @@
 
 #include "files.h"
 #include "format.h"
+#include "ignore.h"
 #include "learn.h"
 #include "allocation.h"
+#include "output.h"
 #include "output_files.h"
 #include "right_orders.h"
 #include "steering_plan.h"
 #include "usage.h"
+#include "workplace.h"
 
 /* The reserve is what replaying needs where the recording fills the disk. */
 enum { RESERVE_BYTES = 1 << 18, MAPPED_BYTES = 4096, LOT = 12 };
@@ -26,66 +29,18 @@ enum { RESERVE_BYTES = 1 << 18, MAPPED_BYTES = 4096, LOT = 12 };
 static const char *removed; /* when `record` ends */
 static void *mapped = MAP_FAILED;
 
-/* After a name in quotes; NULL where there is none. */
-static const char *after_name(const char *at, const char *end)
-{
-    if (at == end || *at != '"')
-        return NULL;
-    const char *quote = memchr(at + 1, '"', (size_t)(end - at - 1));
-    return quote && quote > at + 1 ? quote + 1 : NULL;
-}
-
-static const char *after_blanks(const char *at, const char *end)
-{
-    while (at < end && (*at == ' ' || *at == '\t'))
-        at++;
-    return at;
-}
-
-/* Each line of the ignore file is a comment, or empty, or one name or two, and maybe a comment after them. */
-static bool is_good_line(const char *at, const char *end)
-{
-    if (after_blanks(at, end) == end || *at == '#')
-        return true;
-    at = after_name(at, end);
-    if (!at)
-        return false;
-    const char *next = after_blanks(at, end), *second = next > at ? after_name(next, end) : NULL;
-    if (second)
-        next = after_blanks(second, end);
-    return next == end || *next == '#';
-}
-
 static void check_ignore(const char *path)
 {
     struct stat found;
-    FILE *file = stat(path, &found) == 0 && S_ISREG(found.st_mode) ? fopen(path, "re") : NULL;
-    char *line = NULL;
-    size_t room = 0, number = 0;
-    ssize_t length;
-    if (!file)
+    struct ignore ignore = {.is_unread = true};
+    unsigned long bad = 0;
+    if (stat(path, &found) == 0 && S_ISREG(found.st_mode))
+        bad = ignore_read(&ignore, path);
+    if (ignore.is_unread)
         refuse("%s can't be read", path);
-    while ((length = getline(&line, &room, file)) > 0) {
-        number++;
-        if (!is_good_line(line, line + length - (line[length - 1] == '\n')))
-            refuse("%s: line %zu isn't \"TYPE\" or \"TYPE\" \"TYPE\"", path, number);
-    }
-    free(line);
-    fclose(file);
-}
-
-/* The name of the log, as it would be of this process; %p is the number. */
-static char *log_name(const char *log)
-{
-    char *name = copy("");
-    for (const char *next; (next = strstr(log, "%p")); log = next + 2) {
-        char *longer = say_text("%s%.*s%d", name, (int)(next - log), log, (int)getpid());
-        free(name);
-        name = longer;
-    }
-    char *whole = say_text("%s%s", name, log);
-    free(name);
-    return whole;
+    if (bad)
+        refuse("%s: line %lu isn't \"TYPE\" or \"TYPE\" \"TYPE\"", path, bad);
+    ignore_end(&ignore);
 }
 
 static void check_right(const char *path)
@@ -118,7 +73,7 @@ void prepare_files(const struct settings *settings)
     if (learn_is_wanted(settings))
         learn_check(settings);
     if (is_asked(settings->log)) {
-        char *name = log_name(settings->log);
+        char *name = output_name(settings->log, getpid());
         written_check(name);
         free(name);
     }
@@ -141,7 +96,7 @@ void prepare_hands_over(void)
     removed = NULL;
 }
 
-static _Noreturn void fail_for_room(void)
+void fail_for_room(void)
 {
     fail("there is no room for a recording in %s", file_temporary());
 }

@@ -19,6 +19,9 @@ void prepare_removes(const char *work);
 /* The folder for the recorder's files, below `work`, with the room for its status. Fills in `settings.little`. */
 char *prepare_records(struct settings *settings, const char *work);
 
+/* Ends `record`, where the folder of the recording can't be made. */
+_Noreturn void fail_for_room(void);
+
 /* What the recorder reads when the program loads it. */
 void prepare_environment(const struct options *options, const char *records);
 

@@ -161,11 +161,6 @@ static void find_files(struct view *view)
         refuse_target("nothing of %s can be read", target);
 }
 
-static _Noreturn void fail_for_room(void)
-{
-    fail("there is no room for a recording in %s", file_temporary());
-}
-
 /* Of the bytes, those that are written and in whole lines. A last line that no zero follows may go on. */
 static size_t whole_lines(const char *bytes, size_t length)
 {

@@ -40,7 +40,7 @@ struct settings {
     const char *confirm_from;  /* --confirm=from=FILE: the reports of that file of --json */
     const char *before;        /* --before, which goes: a command before each steered run */
     int noise;                 /* --confirm=noise: the longest pause of a request, in milliseconds; 0 for none */
-    const struct again *again; /* how the program is begun again (steered.h) */
+    const struct again *again; /* how the program is begun again (steered_run.h) */
     const char *colour;        /* --color; NULL is auto */
     bool suppressions;
     bool judge;       /* --judge, which goes: whether the trace is one of locks is asked */

@@ -28,24 +28,11 @@ bool kept_write(const struct settings *settings, const char *work)
     free(path);
     if (!file)
         return false;
-    put(file, "keep", settings->keep);
     put(file, "ignore", settings->ignore);
     put(file, "right", settings->right);
-    put(file, "witness", settings->witness);
-    put(file, "misfit", settings->misfit);
-    fputs("error ", file);
-    if (settings->error)
-        fprintf(file, "%d", settings->error);
-    putc('\n', file);
-    put(file, "log", settings->log);
-    put(file, "suppressions", settings->suppressions ? "yes" : "");
-    put(file, "graph", settings->graph);
-    put(file, "judge", settings->judge ? "yes" : "");
-    fprintf(file, "frames %d\n", settings->frames);
     put(file, "skip", settings->skip);
     put(file, "directory", settings->directory);
     put(file, "program", settings->program);
-    put(file, "little", settings->little);
     bool whole = !ferror(file);
     return fclose(file) == 0 && whole;
 }

@@ -1,11 +1,10 @@
 #include "status_file.h"
 
-#include <fcntl.h>
 #include <stdlib.h>
 #include <string.h>
-#include <sys/stat.h>
 #include <unistd.h>
 
+#include "files.h"
 #include "format.h"
 #include "allocation.h"
 #include "source_names.h"
@@ -16,21 +15,16 @@ enum { BYTES_LEAST = 65536 };
 static char *written(const char *path, size_t *size)
 {
     struct stat found;
-    int file = open(path, O_RDONLY | O_CLOEXEC);
+    int file = file_open_regular(path, &found);
     if (file < 0)
         return NULL;
-    char *bytes = fstat(file, &found) == 0 ? take((size_t)found.st_size + 1) : NULL;
-    size_t length = 0, kept = 0;
-    ssize_t got = 0;
-    while (bytes && length < (size_t)found.st_size
-        && (got = read(file, bytes + length, (size_t)found.st_size - length)) > 0)
-        length += (size_t)got;
+    char *bytes = take((size_t)found.st_size + 1);
+    size_t length = file_read(file, bytes, (size_t)found.st_size), kept = 0;
     close(file);
     for (size_t at = 0; at < length; at++)
         if (bytes[at])
             bytes[kept++] = bytes[at];
-    if (bytes)
-        bytes[kept] = '\0';
+    bytes[kept] = '\0';
     *size = length;
     return bytes;
 }

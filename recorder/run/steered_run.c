@@ -12,13 +12,14 @@
 #include <time.h>
 #include <unistd.h>
 
-#include "files.h"
+#include "clock.h"
 #include "interrupts.h"
 #include "allocation.h"
 #include "prepare.h"
 #include "show_run.h"
 #include "sleepers.h"
 #include "steering_plan.h"
+#include "workplace.h"
 
 enum { LOOK = 10000000, UNPROVED = 1000000, CHILDREN_MOST = 256 };
 
@@ -118,13 +119,6 @@ bool steered_hangs(struct process *process, long long since, long long now)
 }
 
 /* Running it. */
-
-static long long microseconds(void)
-{
-    struct timespec now;
-    clock_gettime(CLOCK_MONOTONIC, &now);
-    return now.tv_sec * 1000000LL + now.tv_nsec / 1000;
-}
 
 /* A file that `record` reads from is read from its beginning; anything else can't be read twice. */
 static void take_input(void)

@@ -5,7 +5,6 @@
 #define RECORD_STEERED_RUN_H
 
 #include <stdbool.h>
-#include <stddef.h>
 
 #include "hang.h"
 #include "plan.h"

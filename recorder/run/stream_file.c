@@ -8,7 +8,6 @@
 
 #include <errno.h>
 #include <fcntl.h>
-#include <limits.h>
 #include <stdlib.h>
 #include <string.h>
 #include <sys/mman.h>
@@ -79,14 +78,6 @@ static char *program_in(const struct stream *stream)
     return name ? name : copy("");
 }
 
-static long process_of(const char *path)
-{
-    char *end;
-    const char *name = file_base(path);
-    long number = *name >= '0' && *name <= '9' ? strtol(name, &end, 10) : 0;
-    return number > 0 && number < INT_MAX ? number : 0;
-}
-
 /* Where something is written from there on; where the file's system knows nothing of holes, there. -1 of nothing. */
 static off_t next_written(int file, off_t from)
 {
@@ -152,7 +143,6 @@ bool stream_open_after(struct stream *stream, const char *path, size_t before, b
     if (!opened)
         return false;
     stream->path = copy(path);
-    stream->process = process_of(path);
     stream->answered = strlen(stream->head) > ASKED_AT && stream->head[ASKED_AT] == ASKED_NOT;
     return true;
 }

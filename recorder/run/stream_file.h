@@ -16,7 +16,6 @@ struct stream {
     size_t before;     /* so many bytes of the file come before these */
     size_t mapped;     /* memory for them */
     char *program;     /* of the second line */
-    long process;      /* by the file's name */
     bool answered;     /* it was asked which mutexes are held, and has answered */
 };
 

@@ -106,15 +106,17 @@ void find_going(struct run *run)
         run->left = false;
 }
 
-static char *name_of(long process)
+char *task_name(long process, long thread)
 {
-    char path[64], name[64] = "";
-    snprintf(path, sizeof path, "/proc/%ld/comm", process);
+    char name[64] = "";
+    char *path = say_text("/proc/%ld/task/%ld/comm", process, thread);
     FILE *from = fopen(path, "re");
-    if (from && !fgets(name, sizeof name, from))
+    free(path);
+    if (!from)
+        return NULL;
+    if (!fgets(name, sizeof name, from))
         name[0] = '\0';
-    if (from)
-        fclose(from);
+    fclose(from);
     name[strcspn(name, "\n")] = '\0';
     return copy(name);
 }
@@ -130,8 +132,9 @@ void tell_going(struct run *run)
     }
     keep_recording(run);
     for (size_t i = 0; i < run->goings && i < TOLD_MOST; i++) {
-        char *name = name_of(run->going[i]);
-        say(&run->output, "%s (process %ld) goes on: record --show %ld tells of it", name, run->going[i], run->going[i]);
+        char *name = task_name(run->going[i], run->going[i]);
+        say(&run->output, "%s (process %ld) goes on: record --show %ld tells of it", name ? name : "", run->going[i],
+            run->going[i]);
         free(name);
     }
     if (run->goings > TOLD_MOST)

@@ -1,11 +1,11 @@
 #include "thread_locks.h"
 
-#include <dirent.h>
 #include <stdlib.h>
 #include <string.h>
 
 #include "allocation.h"
 #include "place_words.h"
+#include "survivors.h"
 #include "thread_label.h"
 
 /* What is told of each seat, and which locks that names. */
@@ -43,22 +43,6 @@ static void add_seat(struct scene *scene, unsigned number)
     }
     if (seat->asked)
         add(scene, number, say_text("waits for \"%s\"", notes_lock(notes, seat->asked)->name), seat->asked_at);
-}
-
-/* The name that the thread has now; NULL where the process has no such thread. */
-static char *task_name(long process, long thread)
-{
-    char name[64] = "";
-    char *path = say_text("/proc/%ld/task/%ld/comm", process, thread);
-    FILE *from = fopen(path, "re");
-    free(path);
-    if (!from)
-        return NULL;
-    if (!fgets(name, sizeof name, from))
-        name[0] = '\0';
-    fclose(from);
-    name[strcspn(name, "\n")] = '\0';
-    return copy(name);
 }
 
 /*

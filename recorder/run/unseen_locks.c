@@ -1,11 +1,9 @@
 #include "unseen_locks.h"
 
-#include <fcntl.h>
 #include <regex.h>
 #include <stdbool.h>
 #include <stdlib.h>
 #include <string.h>
-#include <sys/stat.h>
 #include <unistd.h>
 
 #include "files.h"
@@ -116,11 +114,10 @@ static void look_into(struct look *look, const char *path)
     struct stat found;
     size_t kept = 0;
     ssize_t got;
-    int file = open(path, O_RDONLY | O_NONBLOCK | O_CLOEXEC);
+    int file = file_open_regular(path, &found);
     if (file < 0)
         return;
-    bool is_file = fstat(file, &found) == 0 && S_ISREG(found.st_mode);
-    while (is_file && (got = read(file, look->chunk + kept, CHUNK_BYTES - kept)) > 0) {
+    while ((got = read(file, look->chunk + kept, CHUNK_BYTES - kept)) > 0) {
         size_t length = kept + (size_t)got;
         search_in(&look->search, look->chunk, length, found_text, look);
         kept = length < look->search.longest ? length : look->search.longest - 1;

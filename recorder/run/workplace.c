@@ -2,8 +2,8 @@
 
 #include <fcntl.h>
 #include <signal.h>
+#include <stdbool.h>
 #include <stddef.h>
-#include <stdlib.h>
 #include <string.h>
 #include <sys/syscall.h>
 #include <unistd.h>
@@ -49,10 +49,10 @@ static int remove_entry(int folder, const char *name)
     if (unlinkat(folder, name, 0) == 0)
         return 1;
     int inner = openat(folder, name, O_RDONLY | O_DIRECTORY | O_NOFOLLOW | O_CLOEXEC);
-    if (inner < 0)
-        return 0;
-    empty(inner);
-    close(inner);
+    if (inner >= 0) {
+        empty(inner);
+        close(inner);
+    }
     return unlinkat(folder, name, AT_REMOVEDIR) == 0;
 }
 
@@ -67,15 +67,22 @@ static int remove_entries(int folder, char *entries, long length)
     return removed;
 }
 
-static void remove_it(void)
+void folder_remove(const char *path)
 {
-    int folder = is_removed ? open(workplace, O_RDONLY | O_DIRECTORY | O_CLOEXEC) : -1;
-    is_removed = 0;
+    int folder = open(path, O_RDONLY | O_DIRECTORY | O_NOFOLLOW | O_CLOEXEC);
     if (folder < 0)
         return;
     empty(folder);
     close(folder);
-    rmdir(workplace);
+    rmdir(path);
+}
+
+static void remove_it(void)
+{
+    bool is_there = is_removed;
+    is_removed = 0;
+    if (is_there)
+        folder_remove(workplace);
 }
 
 static void interrupted(int number)

@@ -4,6 +4,9 @@
 #ifndef RECORD_WORKPLACE_H
 #define RECORD_WORKPLACE_H
 
+/* Removes the folder and all that is in it, and follows no links. A handler of signals may call it. */
+void folder_remove(const char *path);
+
 /* From here on INT removes it and ends with 130; where INT is ignored, it stays so. */
 void workplace_begin(const char *folder);
 

@@ -5,7 +5,6 @@
 #include "quick.h"
 
 #include <limits.h>
-#include <sys/syscall.h>
 
 /* Errors that were written, by their kind and place, so that none is written twice. What finds no room isn't written. */
 enum { ERRORS_MOST = 1024 };

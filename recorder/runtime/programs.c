@@ -9,7 +9,6 @@
 #include <errno.h>
 #include <limits.h>
 #include <stdarg.h>
-#include <string.h>
 
 extern char **environ;
 

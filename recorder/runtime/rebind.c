@@ -1,5 +1,5 @@
 /*
- * Puts the recorder's own functions in the place of those of others.h, in the objects that need their library.
+ * Puts the recorder's own functions in the place of those of library_locks.h, in the objects that need their library.
  *
  * An object calls a function of another one by a word in its memory, which the dynamic linker fills, or will at the first
  * call. Where that word leads to the library's function, or will, the own one's address is put there. So what the program

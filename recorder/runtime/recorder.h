@@ -1,33 +1,35 @@
 /*
  * The recorder: an object for LD_PRELOAD that writes what a program does with its locks, in lines from which
- * `record` makes a trace (command/). This file has what its parts share:
+ * `record` makes a trace (../run/, ../symbols/). This file has what its parts share:
  *
  *   calls.c     the interposed calls of pthread, C11 and the C library; ways.h, what they share
- *   others.c    those of GLib and OpenMP, where the program has them; rebind.c puts them there
+ *   library_locks.c  those of GLib and OpenMP, where the program has them; rebind.c puts them there
  *   repeats.c   requests with a time limit that are made again and again
  *   single_pairs.c  the pairs of single locks; single_pairs.h, what is read of them without the mutex; single_lines.c, their
- *               lines; singles.c, when threads began and were joined; errand.c, on which way a thread came to a request
+ *               lines; thread_lives.c, when threads began and were joined; errand.c, on which way a thread came to a
+ *               request
  *   errors.c    errors in the use of locks that aren't orders
  *   annotations.c  what a program tells of its own locks by witness.h
  *   semaphores.c  the semaphores that are locks
  *   threads.c   who made each thread
  *   programs.c  the programs that a process starts; libraries.c, the libraries that it opens
- *   asked.c     which mutexes are held, where `record --show` asks
+ *   mutex_answer.c  which mutexes are held, where `record --show` asks
  *   steer.c     where a steered run pauses; steer.h, and plan.h, what is planned
  *   start.c     the real functions behind them, the start, fork
  *   chains.c    what each thread holds; quick.h, where nothing is to be written
  *   waiters.c   threads that wait for a condition while they hold locks
  *   locks.c     the locks at their addresses, and their types
  *   blocks.c    the blocks of memory that they are in, where that is asked for; malloc/, its interposed calls
- *   aside.c     stacks of the recorder's own, since the program's may be small
- *   places.c    the callers of a call; objects.c finds their object, elf_symbols.c its symbols; sites.c, places by name
+ *   side_stacks.c  stacks of the recorder's own, since the program's may be small
+ *   places.c    the callers of a call; objects.c finds their object, elf_symbols.c its symbols; named_places.c, places by
+ *               name
  *   stacks.c    the callers of what is written
  *   seats.c     seats, and the numbers of types, locks and places in a stream
  *   condensed.h which requests a stream needs, by the pairs of types that it tells of
  *   write.c     the lines, and why they are a legal history
  *   words.c     words of others, which may have any bytes
  *   stream.c    the file that the lines stand in
- *   pinned.c    mlockall, and which memory is the recorder's
+ *   memory_lock.c  mlockall, and which memory is the recorder's
  *   reach.c     memory that may not be there
  *   status.c    which programs were started, what failed and which objects were loaded, where it outlives the process
  *   judge.h     who judges the lines, where these files are part of libwitness
@@ -107,8 +109,8 @@ struct marks {
 #define NUMBER_NONE UINT32_MAX
 
 /*
- * Where a call comes from: its return address, or what stands for one of a place by name (sites.c); and the stack pointer
- * and frame pointer of the caller.
+ * Where a call comes from: its return address, or what stands for one of a place by name (named_places.c); and the stack
+ * pointer and frame pointer of the caller.
  */
 struct caller {
     uintptr_t pc;
@@ -149,7 +151,7 @@ struct type {
     enum class class;
     uintptr_t anchor;  /* of a lock that stands in an object: the lock, or the variable that it is in; else 0 */
     uint32_t object;   /* in which the anchor is; two may have been at one address, one after the other */
-    const char *label; /* the name that the program gives it, a word of sites.c; NULL of most types */
+    const char *label; /* the name that the program gives it, a word of named_places.c; NULL of most types */
     bool met;          /* no call has made its locks: the places are those of a first use */
     uintptr_t address; /* of the first lock of the type */
     uint64_t part;     /* one more than the locks' offset in their blocks; 0 where that doesn't count */
@@ -253,7 +255,7 @@ struct thread {
     uint32_t asked;       /* the number of the lock whose request is pending there, 0 for none */
     bool asks_for_a_time; /* the request that was written last ends by itself */
     struct held few[HELD_FEW];
-    uintptr_t own_stack;   /* where the stack of the recorder's own begins that it is on; 0 for none (aside.c) */
+    uintptr_t own_stack;   /* where the stack of the recorder's own begins that it is on; 0 for none (side_stacks.c) */
     bool keeps_signals;    /* no handler runs on that one */
     bool looks;            /* at what is loaded, at its next call: it has opened a library */
     uintptr_t other_stack; /* where its stack for handlers begins, as it was set last, and how long that is */
@@ -405,8 +407,8 @@ extern _Atomic bool has_handlers;     /* the program was given a handler of sign
 extern _Atomic bool has_small_stacks; /* and one that has a stack of its own */
 
 /*
- * aside.c: calls the function with the argument, on a stack of the recorder's own: so of the program's it takes some hundred
- * bytes, whatever the function does.
+ * side_stacks.c: calls the function with the argument, on a stack of the recorder's own: so of the program's it takes some
+ * hundred bytes, whatever the function does.
  */
 void aside(void (*function)(void *), void *argument);
 bool is_aside(uintptr_t stack); /* whether this thread's own stack has the address */
@@ -608,7 +610,7 @@ void places_closed(uintptr_t from, uintptr_t to);
 /* The place of that name, under that address; 0 where there is no room. Under the mutex. */
 uint32_t place_named(uintptr_t pc, const char *file, unsigned line, const char *function);
 
-/* sites.c */
+/* named_places.c */
 bool sites_made(void);
 /* The caller, at the place by name of that number where there is one. */
 struct caller site_or(unsigned number, struct caller caller);
@@ -642,7 +644,7 @@ void objects_look(void);
 bool objects_are_found(void);
 
 /* rebind.c */
-void others_come(void);    /* an object may come that needs a library of others.h */
+void others_come(void);    /* an object may come that needs a library of library_locks.h */
 void others_rebound(void); /* the functions of those that have come are recorded from here on */
 
 /* stacks.c */
@@ -655,7 +657,7 @@ uint32_t stack_of_held(uint32_t place, struct caller caller);
 uint32_t stack_met(struct caller caller, uint32_t *place);
 void stack_stands(uint32_t number);
 
-/* asked.c */
+/* mutex_answer.c */
 bool lock_read(const struct lock *lock, void *to, size_t bytes); /* false where its memory is gone */
 /*
  * The thread that a mutex or a rwlock itself names as its holder, as the kernel counts threads; 0 where it names none,
@@ -696,7 +698,7 @@ struct single_pair;
 void write_pair(struct request *request, const struct held *held, const struct single_pair *pair, bool again);
 void write_no_more_pairs(void);
 
-/* singles.c */
+/* thread_lives.c */
 void singles_forked(void);
 void life_begins(struct thread *thread); /* under the mutex; it is told of once */
 /* What is known of a thread before it is joined: its handle, and by what it is told from a later one of that handle. */
@@ -798,7 +800,7 @@ bool stream_made(void);
 void stream_forked(void);
 void stream_end(void);
 
-/* pinned.c */
+/* memory_lock.c */
 void own_memory(const void *from, size_t bytes); /* that is the recorder's, and not the program's */
 void own_memory_goes(const void *from);
 void own_object(void);

@@ -4,8 +4,6 @@
  */
 #include "quick.h"
 
-#include <sys/syscall.h>
-
 /* Threads whose end is told of, if they are joined. */
 enum { LIVES = 256 };
 

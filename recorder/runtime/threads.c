@@ -6,8 +6,6 @@
  */
 #include "quick.h"
 
-#include <sys/syscall.h>
-
 #include "witness.h"
 
 /* In their order: so it is known which thread was joined before another one was made. */

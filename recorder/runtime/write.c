@@ -31,7 +31,6 @@
 #include "steer.h"
 
 #include <string.h>
-#include <sys/syscall.h>
 
 /* It is told without a name where it has its program's. */
 void write_thread(const struct thread *thread)

@@ -1,12 +1,11 @@
 #include "debug_info.h"
 
 #include "debug_types.h"
+#include "files.h"
 #include "libdw.h"
 #include "allocation.h"
 
-#include <fcntl.h>
 #include <stdlib.h>
-#include <sys/stat.h>
 #include <unistd.h>
 
 struct unit {
@@ -29,25 +28,14 @@ struct debug_info {
     size_t last_unit;            /* that had an address, where the file has no table of them */
 };
 
-/* A file that isn't a regular one isn't opened: that may wait. */
-static int open_regular(const char *path)
-{
-    struct stat found;
-    int file = open(path, O_RDONLY | O_CLOEXEC | O_NONBLOCK | O_NOCTTY);
-    if (file >= 0 && fstat(file, &found) == 0 && S_ISREG(found.st_mode))
-        return file;
-    if (file >= 0)
-        close(file);
-    return -1;
-}
-
 /* Of one file the addresses in its debug information are those that the file has. */
 static bool find(struct debug_info *info, const char *path)
 {
     /* libdw keeps it. */
     static struct search_for_debug search;
     search = (struct search_for_debug){NULL, libdw.find_debug, libdw.section_address, NULL};
-    int file = open_regular(path);
+    struct stat found;
+    int file = file_open_regular(path, &found);
     info->search = file >= 0 ? libdw.begin(&search) : NULL;
     struct Dwfl_Module *object = info->search ? libdw.file(info->search, path, path, file) : NULL;
     if (!object && file >= 0)

@@ -27,43 +27,55 @@ static char *quoted(const char **at)
     return copy_bytes(from, (size_t)(end - from));
 }
 
-static void read_line(struct ignore *ignore, const char *line, unsigned long number)
+/* False where the line is none of such a file. What it names is taken all the same. */
+static bool read_line(struct ignore *ignore, const char *line, unsigned long number)
 {
+    if (*line == '#' || line[strspn(line, " \t")] == '\0')
+        return true;
+    ADD(ignore->line, ignore->lines, ignore->line_room) = (struct ignore_line){copy(line), number};
     char *first = quoted(&line), *second = NULL;
-    size_t blanks = first ? strspn(line, " \t") : 0;
+    bool is_named = first != NULL;
+    size_t blanks = is_named ? strspn(line, " \t") : 0;
     line += blanks;
     if (blanks > 0)
         second = quoted(&line);
     if (second) {
         ADD(ignore->pair, ignore->pairs, ignore->pair_room) = (struct ignored_pair){first, second, number};
-        return;
-    }
-    if (first)
+    } else if (first) {
         *map_add_text(&ignore->single, first) = number;
-    free(first);
+        free(first);
+    }
+    line += strspn(line, " \t");
+    return is_named && (*line == '\0' || *line == '#');
 }
 
-void ignore_read(struct ignore *ignore, const char *path)
+unsigned long ignore_read(struct ignore *ignore, const char *path)
 {
     *ignore = (struct ignore){0};
     char *line = NULL;
     size_t room = 0;
+    unsigned long bad = 0;
     FILE *file = fopen(path, "re");
     if (!file) {
         ignore->is_unread = true;
-        return;
+        return 0;
     }
     for (unsigned long number = 1; getline(&line, &room, file) >= 0; number++) {
         line[strcspn(line, "\n")] = '\0';
-        read_line(ignore, line, number);
+        if (!read_line(ignore, line, number) && bad == 0)
+            bad = number;
     }
     ignore->is_unread = ferror(file) != 0;
     free(line);
     fclose(file);
+    return bad;
 }
 
 void ignore_end(struct ignore *ignore)
 {
+    for (size_t i = 0; i < ignore->lines; i++)
+        free(ignore->line[i].text);
+    free(ignore->line);
     for (size_t i = 0; i < ignore->pairs; i++) {
         free(ignore->pair[i].first);
         free(ignore->pair[i].second);

@@ -18,14 +18,23 @@ struct ignored_pair {
     unsigned long line;
 };
 
+/* A line that is neither empty nor a comment, as it stands there. */
+struct ignore_line {
+    char *text;
+    unsigned long number;
+};
+
 struct ignore {
     struct map single; /* of a type alone, its line */
     struct ignored_pair *pair;
     size_t pairs, pair_room;
+    struct ignore_line *line;
+    size_t lines, line_room;
     bool is_unread; /* the file can't be read */
 };
 
-void ignore_read(struct ignore *ignore, const char *path);
+/* Reads the file. The answer is the number of the first line that isn't "TYPE" or "TYPE" "TYPE", else 0. */
+unsigned long ignore_read(struct ignore *ignore, const char *path);
 void ignore_end(struct ignore *ignore);
 
 /*

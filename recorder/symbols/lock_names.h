@@ -38,7 +38,7 @@ bool has_text_at(const struct declared *declared, const struct step *step);
 
 /* The step's function in the source. */
 struct function_in_source {
-    const char *name; /* by debug information where symbol tools tell another one's, else NULL */
+    const char *name; /* by debug information, where the step has another one; else NULL */
     long lines;       /* how many lines the step is below the one that declares it; negative where that isn't known */
 };
 

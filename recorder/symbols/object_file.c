@@ -1,14 +1,14 @@
 #include "object_file.h"
 
 #include <elf.h>
-#include <fcntl.h>
 #include <stdbool.h>
 #include <stdint.h>
 #include <stdio.h>
 #include <string.h>
 #include <sys/mman.h>
-#include <sys/stat.h>
 #include <unistd.h>
+
+#include "files.h"
 
 enum { BUILD_ID_MOST = 64 };
 
@@ -27,11 +27,11 @@ static const void *bytes_at(const struct image *image, uint64_t offset, uint64_t
 static bool map_image(struct image *image, const char *path)
 {
     struct stat status;
-    int file = open(path, O_RDONLY | O_CLOEXEC | O_NONBLOCK);
+    int file = file_open_regular(path, &status);
     *image = (struct image){0};
     if (file < 0)
         return false;
-    if (fstat(file, &status) == 0 && S_ISREG(status.st_mode) && status.st_size >= (off_t)sizeof(Elf64_Ehdr)) {
+    if (status.st_size >= (off_t)sizeof(Elf64_Ehdr)) {
         void *bytes = mmap(NULL, (size_t)status.st_size, PROT_READ, MAP_PRIVATE, file, 0);
         if (bytes != MAP_FAILED)
             *image = (struct image){bytes, (size_t)status.st_size, status.st_mtime};

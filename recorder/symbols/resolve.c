@@ -49,6 +49,11 @@ void resolver_end(struct resolver *resolver)
     free(resolver);
 }
 
+const struct ignore *resolver_ignore(const struct resolver *resolver)
+{
+    return &resolver->ignore;
+}
+
 void resolver_keeps(struct resolver *resolver, const struct stream *stream, const struct alias *alias)
 {
     told_names_add(resolver->told, stream->path, alias->source, alias->type);

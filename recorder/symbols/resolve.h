@@ -12,11 +12,15 @@
 #include "settings.h"
 #include "stream_file.h"
 
-/* Holds the symbol tools' children, one for each object, and what they answered: for all files of a run. */
+/* What is known of objects (symbols.h), the ignore file, and the lists of right orders: for all files of a run. */
 struct resolver;
 
 struct resolver *resolver_new(const struct settings *settings);
 void resolver_end(struct resolver *resolver);
+
+/* The ignore file, as it was read when this began. */
+struct ignore;
+const struct ignore *resolver_ignore(const struct resolver *resolver);
 
 /* The type of the stream was told of by its name, which it keeps. */
 void resolver_keeps(struct resolver *resolver, const struct stream *stream, const struct alias *alias);

@@ -18,7 +18,7 @@ struct spot_of_code {
     uint64_t address;
     const char *file; /* with its folders */
     long line;
-    const char *function; /* as symbol tools tell it; NULL where they don't */
+    const char *function; /* as the frames of the address tell it (debug_frames.h); NULL where they don't */
 };
 
 /* Where names are looked for: the function, and the blocks in it that have the address, from it inwards. */

@@ -1,14 +1,13 @@
 #include "source_lines.h"
 
+#include "files.h"
 #include "map.h"
 #include "allocation.h"
 #include "place.h"
 #include "texts.h"
 
-#include <fcntl.h>
 #include <stdlib.h>
 #include <string.h>
-#include <sys/stat.h>
 #include <unistd.h>
 
 /* A longer file is no source that somebody reads; and a statement of more lines isn't read to its end. */
@@ -47,25 +46,16 @@ void source_lines_end(struct source_lines *lines)
     free(lines);
 }
 
-static size_t read_bytes(int file, char *bytes, size_t length)
-{
-    size_t got = 0;
-    for (ssize_t more; got < length && (more = read(file, bytes + got, length - got)) > 0;)
-        got += (size_t)more;
-    return got;
-}
-
-/* Its name may be that of anything by now: nothing is waited for, and only a plain file is read. */
 static struct source read_source(const char *path)
 {
     struct source source = {0};
     struct stat status;
-    int file = open(path, O_RDONLY | O_NONBLOCK | O_NOCTTY | O_CLOEXEC);
+    int file = file_open_regular(path, &status);
     if (file < 0)
         return source;
-    if (fstat(file, &status) == 0 && S_ISREG(status.st_mode) && status.st_size <= FILE_MOST) {
+    if (status.st_size <= FILE_MOST) {
         source.bytes = take((size_t)status.st_size + 1);
-        source.length = read_bytes(file, source.bytes, (size_t)status.st_size);
+        source.length = file_read(file, source.bytes, (size_t)status.st_size);
         source.changed = status.st_mtime;
     }
     close(file);

@@ -66,7 +66,7 @@ if wanted earlier; then
     tell earlier "the trace of a recorder's file, by --show" $?
     writes '--clean kept' 'witness clean <FILE' sh -c '"$WITNESS" clean <kept; :'
     writes '--completion bash' 'tools/completion, or what tools/install puts under share' "$recorder/../tools/completion" bash
-    sed -n 's/^    {{"\(--[a-z-]*\)", [A-Z]*, take_[a-z_]*}.*/\1/p' "$recorder/run/options.c" | sort >names && [ -s names ] && sort -u earlier.names | diff names -
+    sed -n 's/^    {{"\(--[a-z-]*\)", [A-Z]*, [A-Z]*(.*)},.*/\1/p' "$recorder/run/options.c" | sort >names && [ -s names ] && sort -u earlier.names | diff names -
     tell earlier "each of them was tried" $?
     "$record" --help >help && "$recorder/../tools/completion" bash >>help && "$orders" --help >orders.help
     for name in $(cat names); do
