@@ -248,6 +248,8 @@ int show_ends(struct run *run, const struct ending *ending)
     run->process = ending->process;
     run->ending = ending;
     workplace_begin(run->work);
+    if (run->settings.shows_children)
+        keep_recording(run);
     look_around(run);
     run_has_word(run, 0);
     findings_begin(run);

@@ -11,6 +11,8 @@
 #include <time.h>
 #include <unistd.h>
 
+#include "child_words.h"
+
 enum {
     PIPE_BYTES = 1 << 20,
     READ_BYTES = 1 << 16,
@@ -28,6 +30,7 @@ static void spawn(struct verdict *verdict, const char *const *words, int in, int
     posix_spawn_file_actions_t files;
     posix_spawnattr_t how;
     sigset_t as_ever;
+    child_words(NULL, words);
     sigemptyset(&as_ever);
     sigaddset(&as_ever, SIGPIPE);
     sigaddset(&as_ever, SIGXFSZ);

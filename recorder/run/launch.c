@@ -18,6 +18,7 @@
 #include <time.h>
 #include <unistd.h>
 
+#include "child_words.h"
 #include "clock.h"
 #include "interrupts.h"
 #include "allocation.h"
@@ -132,6 +133,7 @@ static pid_t begin(const char *preload, char **words, int *told, const sigset_t 
     sigaction(SIGCHLD, &children, &children_before);
     if (pipe2(ends, O_CLOEXEC) != 0)
         fail("pipe: %s", strerror(errno));
+    child_words(preload, (const char *const *)words);
     pid_t program = fork();
     if (program < 0)
         fail("fork: %s", strerror(errno));

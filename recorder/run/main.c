@@ -13,6 +13,7 @@
 #include <sys/stat.h>
 #include <unistd.h>
 
+#include "child_words.h"
 #include "confirm_from.h"
 #include "files.h"
 #include "interrupts.h"
@@ -178,6 +179,8 @@ int main(int count, char **words)
     options_read(&options, words[1], as_record.word, as_record.untold);
     options.settings.witness = judge_of(words[1], "WITNESS", "witness");
     prepare_files(&options.settings);
+    if (options.settings.shows_children)
+        child_words_wanted();
     if (options.trace) {
         print_trace(&options.settings, options.trace);
         return 0;

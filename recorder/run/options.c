@@ -226,6 +226,7 @@ static const struct option known[] = {
     {"--json", OUTPUT, TEXT(settings.json)},
     {"--brief", ALONE, CALL(take_brief)},
     {"--verbose", ALONE, CALL(take_verbose)},
+    {"-v", ALONE, FLAG(settings.shows_children)},
     {"--quiet", ALONE, FLAG(settings.quiet)},
     {"--color", MAYBE, CALL(take_colour)},
     {"--error-exitcode", WORD, NUMBER(settings.error, 255)},

@@ -43,12 +43,13 @@ struct settings {
     const struct again *again; /* how the program is begun again (steered_run.h) */
     const char *colour;        /* --color; NULL is auto */
     bool suppressions;
-    bool judge;       /* --judge, which goes: whether the trace is one of locks is asked */
-    bool no_errors;   /* --alarms no-errors: errors in the use of locks aren't told */
-    bool in_debugger; /* the program's process is a debugger's child */
-    bool quiet;       /* nothing is told before the program has ended */
-    bool progress;    /* somebody sits at a terminal */
-    bool one_by_one;  /* the verifier is begun anew for each process */
+    bool judge;          /* --judge, which goes: whether the trace is one of locks is asked */
+    bool no_errors;      /* --alarms no-errors: errors in the use of locks aren't told */
+    bool in_debugger;    /* the program's process is a debugger's child */
+    bool quiet;          /* nothing is told before the program has ended */
+    bool progress;       /* somebody sits at a terminal */
+    bool shows_children; /* -v: what is run is told, and the recording is kept */
+    bool one_by_one;     /* the verifier is begun anew for each process */
 };
 
 #endif

@@ -12,6 +12,7 @@
 #include <time.h>
 #include <unistd.h>
 
+#include "child_words.h"
 #include "clock.h"
 #include "interrupts.h"
 #include "allocation.h"
@@ -146,6 +147,7 @@ static void take_output(const char *path)
 /* A process group of its own, that ends when `record` does. */
 static pid_t begin(const char *preload, char **words, const char *output, const char *plan)
 {
+    child_words(preload, (const char *const *)words);
     pid_t parent = getpid(), program = fork();
     if (program != 0)
         return program;

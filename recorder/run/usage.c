@@ -25,6 +25,7 @@ static const char text[] =
     "  --brief        neither stacks nor threads, nor what is known of single locks\n"
     "  --verbose      stacks of 16 frames, of all that was held; each lock takes longer\n"
     "  --quiet        tell nothing before the program has ended\n"
+    "  -v             tell what record itself runs, and keep the recording: for who changes record\n"
     "  --color[=WHEN] headings in colour: always, never, or auto, at a terminal where NO_COLOR isn't set, as without it\n"
     "What counts:\n"
     "  --error-exitcode N   the status, 1 to 255, where there is a report, a circle or an error, or nothing was recorded\n"

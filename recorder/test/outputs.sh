@@ -8,7 +8,7 @@ build_driver() {
     compiler=$1
     folder=$2
     shift 2
-    sources=$(source_of alarms describe document escape files findings hang json json_place line map allocation notes ignored lock_pairs json_writer process_orders pictures place \
+    sources=$(source_of alarms child_words describe document escape files findings hang json json_place line map allocation notes ignored lock_pairs json_writer process_orders pictures place \
         place_words report schedule single source_names sources texts verdict)
     mkdir -p "$folder" && (cd "$folder" && in_folders "$compiler" -std=c11 -D_GNU_SOURCE -g -Wall -Wextra -Werror \
         "$@" -o driver "$here/outputs/driver.c" $sources)
