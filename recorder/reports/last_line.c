@@ -154,7 +154,7 @@ static int status_of(const struct run *run)
     if (run->deadlock_status)
         return run->deadlock_status;
     if (run->settings.error
-        && (run->alarms || run->circles || run->errors || run->misjudged || run->unknown || run->contradicted))
+        && (run->alarms || run->circles || run->errors || run->illegal || run->unknown || run->contradicted))
         return run->settings.error;
     if (run->contradicted || (run->unknown && learn_is_wanted(&run->settings)))
         return CONTRADICTED;

@@ -170,7 +170,7 @@ static void judge_and_tell(struct ending_run *ending)
 {
     struct run *run = ending->run;
     if (is_asked(run->settings.ignore))
-        learnt_bless(&ending->learnt, run->settings.ignore);
+        learnt_ignore(&ending->learnt, run->settings.ignore);
     learnt_judge(&ending->learnt, run->settings.witness, &ending->judgement);
     if (ending->judgement.failed) {
         tell_failure(ending, ending->judgement.failed);

@@ -111,12 +111,12 @@ static char *told_line(const struct notes *notes, const char *path, unsigned lon
 }
 
 /* The trace stays beside the recording. */
-static void tell_misjudged(struct process *process, const char *trace, const char *verdict)
+static void tell_illegal(struct process *process, const char *trace, const char *verdict)
 {
     struct run *run = process->run;
     unsigned long number = 0;
     sscanf(verdict, "line %lu", &number);
-    run->misjudged = true;
+    run->illegal = true;
     keep_recording(run);
     char *path = say_text("%s/%s.trace", run->records, process->recording->name);
     trace_is_written(process, path);
@@ -134,7 +134,7 @@ static void tell_verdict(struct process *process, const char *trace)
     if (status == FREE_ALL)
         say(&run->output, "%s: judged: each lock was free when it was taken", process->name);
     else if (status == FREE_NOT)
-        tell_misjudged(process, trace, verdict);
+        tell_illegal(process, trace, verdict);
     else
         say(&run->output, "%s: it isn't judged: %s migrate ended with status %d", process->name, run->settings.witness,
             status);

@@ -130,18 +130,18 @@ static int merge(const char *witness, char **words)
     return status_of_output(0);
 }
 
-static size_t count_blessed(const struct learnt *learnt)
+static size_t count_ignored(const struct learnt *learnt)
 {
-    size_t blessed = 0;
+    size_t ignored = 0;
     for (size_t i = 0; i < learnt->orders; i++)
-        blessed += learnt->order[i].is_blessed;
-    return blessed;
+        ignored += learnt->order[i].is_ignored;
+    return ignored;
 }
 
 /* What is known of all orders, as a text of one's own. Of those that are ignored nothing is. */
 static char *verdict_of(const struct learnt *learnt, const struct judgement *judgement)
 {
-    const char *ignored = count_blessed(learnt) > 0 ? " and the ignored ones" : "";
+    const char *ignored = count_ignored(learnt) > 0 ? " and the ignored ones" : "";
     const char *alone = judgement->against == 1 ? "it" : "these";
     if (judgement->against > 0)
         return say_text("%zu order%s against others, and no circle without %s%s", judgement->against,
@@ -172,9 +172,9 @@ static int tell(const struct learnt *learnt, const struct judgement *judgement, 
     int status = judgement->against > 0 ? FOUND : 0;
     for (size_t i = 0; i < judgement->reports.count; i++)
         report_write(stdout, &judgement->reports.report[i], false, suppressions);
-    size_t blessed = count_blessed(learnt);
-    if (blessed > 0)
-        printf("orders: %zu of them %s ignored\n", blessed, blessed == 1 ? "is" : "are");
+    size_t ignored = count_ignored(learnt);
+    if (ignored > 0)
+        printf("orders: %zu of them %s ignored\n", ignored, ignored == 1 ? "is" : "are");
     printf("orders: %s\n", summary);
     return status;
 }
@@ -190,7 +190,7 @@ static int judge(const char *witness, char **words)
     read_files(&learnt, witness, files, "judged");
     if (wanted.ignore) {
         prepare_files(&(struct settings){.ignore = wanted.ignore});
-        learnt_bless(&learnt, wanted.ignore);
+        learnt_ignore(&learnt, wanted.ignore);
     }
     learnt_judge(&learnt, witness, &judgement);
     if (judgement.failed)
@@ -257,7 +257,7 @@ int orders_command(const char *here, char **words)
      */
     signal(SIGPIPE, SIG_IGN);
     signal(SIGXFSZ, SIG_IGN);
-    const char *word = *words ? *words : "", *witness = judge_of(here, "WITNESS", "witness");
+    const char *word = *words ? *words : "", *witness = program_called(here, "WITNESS", "witness");
     if (strcmp(word, "--help") == 0 || strcmp(word, "-h") == 0) {
         fputs(text, stdout);
         return status_of_output(0);

@@ -31,7 +31,7 @@ static size_t *in_sequence(struct learnt *learnt, size_t *count)
     size_t *sequence = take(learnt->orders * sizeof *sequence);
     *count = 0;
     for (size_t i = 0; i < learnt->orders; i++)
-        if (!learnt->order[i].is_blessed)
+        if (!learnt->order[i].is_ignored)
             sequence[(*count)++] = i;
     if (*count > 0)
         qsort_r(sequence, *count, sizeof *sequence, by_trust, learnt);
@@ -112,7 +112,7 @@ void judgement_end(struct judgement *judgement)
     *judgement = (struct judgement){0};
 }
 
-const char *judge_of(const char *here, const char *variable, const char *name)
+const char *program_called(const char *here, const char *variable, const char *name)
 {
     const char *named = getenv(variable);
     if (named && *named)

@@ -25,6 +25,6 @@ void judgement_end(struct judgement *judgement);
 /*
  * The program of that name: the one that the variable names, else the one of the repository or of the installed tree.
  */
-const char *judge_of(const char *here, const char *variable, const char *name);
+const char *program_called(const char *here, const char *variable, const char *name);
 
 #endif

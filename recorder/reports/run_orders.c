@@ -93,14 +93,14 @@ static bool are_called(const struct learnt_order *order, const char *first, cons
     return is_called(&order->from, first) && is_called(&order->to, second);
 }
 
-void learnt_bless(struct learnt *learnt, const char *path)
+void learnt_ignore(struct learnt *learnt, const char *path)
 {
     struct ignore ignore;
     ignore_read(&ignore, path);
     for (size_t i = 0; i < ignore.pairs * learnt->orders; i++) {
         struct learnt_order *order = &learnt->order[i % learnt->orders];
         const char *first = ignore.pair[i / learnt->orders].first, *second = ignore.pair[i / learnt->orders].second;
-        order->is_blessed |= are_called(order, first, second) || are_called(order, second, first);
+        order->is_ignored |= are_called(order, first, second) || are_called(order, second, first);
     }
     ignore_end(&ignore);
 }

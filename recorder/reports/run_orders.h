@@ -30,7 +30,7 @@ struct learnt_order {
     size_t asked_as;       /* its place among those that the run that ended just now met, as they were asked for */
     bool is_met;           /* the run that ended just now met it */
     bool is_new;           /* no file has it */
-    bool is_blessed;       /* the user allows either order of its types: it isn't judged */
+    bool is_ignored;       /* the user allows either order of its types: it isn't judged */
     bool is_against;       /* it was judged: it closes a circle with orders that come before it */
     bool is_told;          /* a report of the run itself says so */
 };
@@ -58,7 +58,7 @@ struct learnt_order *learnt_find(const struct learnt *learnt, const char *key);
 void learnt_tell_here(struct learnt *learnt, struct learnt_order *order, struct here asked, struct here held);
 
 /* Allows either order of two types, wherever they are there, as the file of --ignore says. The names may lack their objects. */
-void learnt_bless(struct learnt *learnt, const char *path);
+void learnt_ignore(struct learnt *learnt, const char *path);
 
 void learnt_end(struct learnt *learnt);
 

@@ -33,7 +33,7 @@ static void add_orders(struct order_list *orders, const struct learnt *learnt, c
     for (size_t i = 0; i < learnt->orders; i++) {
         const struct learnt_order *order = &learnt->order[i];
         const char *from = order->from.name, *to = order->to.name;
-        if (order->is_blessed)
+        if (order->is_ignored)
             continue;
         ADD(orders->order, orders->count, orders->room) = (struct order){
             .from = copy(from),

@@ -22,7 +22,7 @@
 #include "survivors.h"
 #include "tell_process.h"
 #include "whole_run.h"
-#include "workplace.h"
+#include "work_folder.h"
 
 static const char empty_trace[] = "witness-trace 1 seats 1 types 1 locks 1 chunks 1\n";
 
@@ -247,7 +247,7 @@ int show_ends(struct run *run, const struct ending *ending)
         prepare();
     run->process = ending->process;
     run->ending = ending;
-    workplace_begin(run->work);
+    work_folder_begin(run->work);
     if (run->settings.shows_children)
         keep_recording(run);
     look_around(run);
@@ -257,6 +257,6 @@ int show_ends(struct run *run, const struct ending *ending)
     int status = tell_run(run);
     findings_finish(run);
     end_run(run);
-    workplace_end();
+    work_folder_end();
     return status;
 }

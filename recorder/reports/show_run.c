@@ -1,13 +1,13 @@
 #include "show_run.h"
 
-#include "workplace.h"
+#include "work_folder.h"
 
 const char no_recorder[] = "it didn't load the recorder";
 
 void keep_recording(struct run *run)
 {
     run->is_kept = true;
-    workplace_keep();
+    work_folder_keep();
 }
 
 bool is_asked(const char *word)

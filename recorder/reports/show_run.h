@@ -54,7 +54,7 @@ struct run {
     unsigned long ignored, known; /* what isn't told: by the user's file, and as right in a library */
     unsigned long confirmed;      /* those that hung */
     bool reported;                /* something was, of any kind */
-    bool misjudged;               /* a trace isn't one of locks that were free when they were taken */
+    bool illegal;                 /* a trace isn't one of locks that were free when they were taken */
     bool partly;                  /* not all was recorded */
     bool unknown;                 /* of a process that was recorded nothing is known */
     char *unclean;                /* why the run isn't clean, NULL where it is */

@@ -33,7 +33,7 @@
 #include "process_view.h"
 #include "steered_run.h"
 #include "verdict.h"
-#include "workplace.h"
+#include "work_folder.h"
 
 /* One at a time: what replays may have to be built first. Where the folder is another user's, there is no waiting. */
 static int lock(const char *built)
@@ -92,11 +92,11 @@ static int run_again(struct options *options, const char *built, const char *wor
     settings->again = &again;
     prepare_lets_go();
     interrupts_leave();
-    workplace_begin(work);
+    work_folder_begin(work);
     struct run *telling = show_begins(settings, work, records);
     int status = confirm_from(telling);
     show_leaves(telling);
-    workplace_end();
+    work_folder_end();
     free(preload);
     free(records);
     return status;
@@ -177,7 +177,7 @@ int main(int count, char **words)
     if (is_orders)
         as_record = orders_words(words + 3);
     options_read(&options, words[1], as_record.word, as_record.untold);
-    options.settings.witness = judge_of(words[1], "WITNESS", "witness");
+    options.settings.witness = program_called(words[1], "WITNESS", "witness");
     prepare_files(&options.settings);
     if (options.settings.shows_children)
         child_words_wanted();

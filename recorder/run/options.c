@@ -390,7 +390,7 @@ void options_read(struct options *options, const char *here, char **words, size_
         refuse("%s runs no program, so %s means nothing", other, *options->program);
     if (!other && !*options->program)
         refuse("no program is named");
-    options->settings.right_usually = right_orders_place(here);
+    options->settings.right_usually = right_orders_folder(here);
     if (options->settings.learn && options->settings.known)
         refuse("--learn and --known are one or the other");
     check_confirm(options, other);

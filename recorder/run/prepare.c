@@ -21,7 +21,7 @@
 #include "right_orders.h"
 #include "steering_plan.h"
 #include "usage.h"
-#include "workplace.h"
+#include "work_folder.h"
 
 /* The reserve is what replaying needs where the recording fills the disk. */
 enum { RESERVE_BYTES = 1 << 18, MAPPED_BYTES = 4096, LOT = 12 };

@@ -4,14 +4,14 @@
 
 enum { STEP = 1 << 18 };
 
-void tell_read(unsigned long lines)
+void progress_read(unsigned long lines)
 {
     if (lines % STEP == 0)
         fprintf(stderr, "\rrecord: %lu lines read ", lines);
 }
 
 /* The last one is wiped away. */
-void tell_resolved(unsigned long lines, unsigned long all)
+void progress_resolved(unsigned long lines, unsigned long all)
 {
     if (lines % STEP != 0)
         return;

@@ -5,7 +5,7 @@
 #define RECORD_PROGRESS_H
 
 /* To be called for each line; only each 262,144th is told. */
-void tell_read(unsigned long lines);
-void tell_resolved(unsigned long lines, unsigned long all);
+void progress_read(unsigned long lines);
+void progress_resolved(unsigned long lines, unsigned long all);
 
 #endif

@@ -20,7 +20,7 @@
 #include "show_run.h"
 #include "sleepers.h"
 #include "steering_plan.h"
-#include "workplace.h"
+#include "work_folder.h"
 
 enum { LOOK = 10000000, UNPROVED = 1000000, CHILDREN_MOST = 256 };
 

@@ -308,7 +308,7 @@ static void look_for_origin(void *argument)
 {
     struct taking *taking = argument;
     uint32_t takers[DEPTH_MOST] = {0};
-    if (!takers_learnt(taking->caller, depth, takers))
+    if (!takers_unwound(taking->caller, depth, takers))
         return;
     ENTERS_OR return;
     taking->origin = origin_met(takers);

@@ -34,7 +34,7 @@ EXPORT void *dlopen(const char *name, int how)
 {
     start();
     library_opens(name, how & RTLD_DEEPBIND, HERE);
-    others_come();
+    library_comes();
     return real.dlopen(name, how);
 }
 

@@ -29,7 +29,7 @@ enum { LIBRARIES_MOST = 8 };
 static uint32_t met;
 static char paths[LIBRARIES_MOST][PATH_MAX];
 
-void others_come(void)
+void library_comes(void)
 {
     if (atomic_load(&may_have_come))
         others_rebound();

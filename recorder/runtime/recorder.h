@@ -600,11 +600,11 @@ uint32_t places_of(struct caller caller, uint32_t places[DEPTH_MOST]);
 uint32_t callers(struct caller caller, uint32_t wanted, uint32_t *found);
 /*
  * As callers, of a call that takes memory: functions that take it for others are passed over, and so are the library's. No
- * more are found than are found quickly. False where one isn't known; takers_learnt asks the unwinder for it, as long as
+ * more are found than are found quickly. False where one isn't known; takers_unwound asks the unwinder for it, as long as
  * places have much room.
  */
 bool takers_known(uintptr_t pc, uintptr_t stack, uintptr_t base, uint32_t wanted, uint32_t *found);
-bool takers_learnt(struct caller caller, uint32_t wanted, uint32_t *found);
+bool takers_unwound(struct caller caller, uint32_t wanted, uint32_t *found);
 bool call_goes_on(uintptr_t stack);
 void places_closed(uintptr_t from, uintptr_t to);
 /* The place of that name, under that address; 0 where there is no room. Under the mutex. */
@@ -644,7 +644,7 @@ void objects_look(void);
 bool objects_are_found(void);
 
 /* rebind.c */
-void others_come(void);    /* an object may come that needs a library of library_locks.h */
+void library_comes(void);  /* an object may come that needs a library of library_locks.h */
 void others_rebound(void); /* the functions of those that have come are recorded from here on */
 
 /* stacks.c */
@@ -699,7 +699,7 @@ void write_pair(struct request *request, const struct held *held, const struct s
 void write_no_more_pairs(void);
 
 /* thread_lives.c */
-void singles_forked(void);
+void lives_forked(void);
 void life_begins(struct thread *thread); /* under the mutex; it is told of once */
 /* What is known of a thread before it is joined: its handle, and by what it is told from a later one of that handle. */
 struct joining {

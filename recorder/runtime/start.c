@@ -290,7 +290,7 @@ static void begin_child(void *unused)
     waiters_forked();
     steer_forked();
     single_pairs_forked();
-    singles_forked();
+    lives_forked();
     errands_forked();
     threads_forked();
     judge_forked();

@@ -16,7 +16,7 @@ static struct life {
 static _Atomic uint32_t lives_kept, lives_begun;
 
 /* The child's streams have none of them yet. */
-void singles_forked(void)
+void lives_forked(void)
 {
     for (uint32_t i = 0; i < LIVES; i++)
         lives[i].thread = 0;

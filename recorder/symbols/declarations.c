@@ -396,7 +396,7 @@ void declared_read(struct declared *declared, const char *at, const char *end, b
         declared->lines++;
         read_line(declared, &line);
         if (progress)
-            tell_read(declared->lines);
+            progress_read(declared->lines);
     }
 }
 

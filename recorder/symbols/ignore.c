@@ -117,7 +117,7 @@ static const struct names *names_of(const struct called *called, const char *wor
 }
 
 /* All pairs of types that the two words of a line stand for. */
-static void bless(const struct called *called, const struct ignored_pair *pair, struct notes *notes)
+static void ignore_pair(const struct called *called, const struct ignored_pair *pair, struct notes *notes)
 {
     const struct names *first = names_of(called, pair->first), *second = names_of(called, pair->second);
     if (!first || !second)
@@ -193,7 +193,7 @@ void ignored_begin(struct notes *notes, const struct ignore *ignore, const struc
             note_alias(notes, type);
     }
     for (size_t i = 0; i < ignore->pairs; i++)
-        bless(&called, &ignore->pair[i], notes);
+        ignore_pair(&called, &ignore->pair[i], notes);
     for (size_t i = 0; i < called.lists; i++)
         free(called.list[i].name);
     free(called.list);

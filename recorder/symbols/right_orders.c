@@ -96,7 +96,7 @@ void right_orders_end(struct right_orders *right)
     *right = (struct right_orders){0};
 }
 
-char *right_orders_place(const char *here)
+char *right_orders_folder(const char *here)
 {
     static const char *const places[] = {"known", "../../../share/witness/known"};
     for (size_t i = 0; i < sizeof places / sizeof *places; i++) {

@@ -40,7 +40,7 @@ size_t right_orders_read(struct right_orders *right, const char *path);
 void right_orders_end(struct right_orders *right);
 
 /* Where the lists of `record` stand, a text of one's own; NULL where they aren't there. `here` has its script. */
-char *right_orders_place(const char *here);
+char *right_orders_folder(const char *here);
 
 /* The requests of a stream that the lists are about, as far as it was read. */
 struct right_requests;
@@ -52,7 +52,7 @@ void right_requests_end(struct right_requests *requests);
 bool right_requests_read(struct right_requests *requests, const struct types *types, const char *at, const char *end);
 
 /*
- * Silences each pair of types, and each type, of which both orders were read, all in the lists' direction are right, and no
+ * Ignores each pair of types, and each type, of which both orders were read, all in the lists' direction are right, and no
  * single locks were taken both ways. The notes have the libraries whose orders these are, in place of those before.
  */
 void right_requests_ignore(const struct right_requests *requests, const struct types *types, struct notes *notes);

@@ -141,7 +141,7 @@ bool trace_write(const struct making *making, FILE *trace)
         if (lines % LINES_BETWEEN == 0 && ferror(trace))
             break;
         if (making->progress)
-            tell_resolved(lines, making->declared->lines);
+            progress_resolved(lines, making->declared->lines);
     }
     lock_counts_end(&writing.counts);
     return fflush(trace) == 0 && !ferror(trace) && !writing.is_odd;

@@ -543,7 +543,7 @@ bool verifier_lines_write(struct verifier_lines *writing, const char *at, const 
         if (++writing->lines % LINES_BETWEEN == 0 && ferror(to))
             break;
         if (writing->making->progress)
-            tell_resolved(writing->lines, writing->making->declared->lines);
+            progress_resolved(writing->lines, writing->making->declared->lines);
     }
     note_lost(writing);
     note_whole(writing);

@@ -44,7 +44,7 @@ bool takers_known(uintptr_t pc, uintptr_t stack, uintptr_t base, uint32_t wanted
     return true;
 }
 
-bool takers_learnt(struct caller caller, uint32_t wanted, uint32_t *found)
+bool takers_unwound(struct caller caller, uint32_t wanted, uint32_t *found)
 {
     return takers_known(caller.pc, caller.stack, caller.base, wanted, found);
 }

@@ -1,4 +1,4 @@
-#include "workplace.h"
+#include "work_folder.h"
 
 #include <fcntl.h>
 #include <signal.h>
@@ -19,7 +19,7 @@ struct entry {
     char name[];
 };
 
-static char *workplace;
+static char *work_folder;
 static volatile sig_atomic_t is_removed; /* when `record` ends */
 
 /* Removes what such entries name; how many. */
@@ -82,7 +82,7 @@ static void remove_it(void)
     bool is_there = is_removed;
     is_removed = 0;
     if (is_there)
-        folder_remove(workplace);
+        folder_remove(work_folder);
 }
 
 static void interrupted(int number)
@@ -91,21 +91,21 @@ static void interrupted(int number)
     _exit(128 + number);
 }
 
-void workplace_begin(const char *folder)
+void work_folder_begin(const char *folder)
 {
     struct sigaction before, ends = {.sa_handler = interrupted};
-    workplace = copy(folder);
+    work_folder = copy(folder);
     is_removed = 1;
     if (sigaction(SIGINT, NULL, &before) == 0 && before.sa_handler != SIG_IGN)
         sigaction(SIGINT, &ends, NULL);
 }
 
-void workplace_keep(void)
+void work_folder_keep(void)
 {
     is_removed = 0;
 }
 
-void workplace_end(void)
+void work_folder_end(void)
 {
     remove_it();
 }
