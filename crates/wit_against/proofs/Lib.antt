@@ -1,3 +1,4 @@
+pub mod Agreed
 pub mod Clean
 pub mod Following
 pub mod Places
