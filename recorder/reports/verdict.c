@@ -19,6 +19,7 @@ enum {
     LITTLE_BYTES = 1 << 12,
     MOST_BYTES = 1 << 26,
     MOMENT = 300000,
+    LEAVING = 1000,
     SIGNALLED = 128
 };
 
@@ -176,8 +177,14 @@ int verdict_end(struct verdict *verdict)
     return verdict->status;
 }
 
+/* It may have begun programs of its own, which would complain if nobody read any more. */
 void verdict_leaves(struct verdict *verdict)
 {
+    verdict->told = NULL;
+    verdict->patience = LEAVING;
+    close_file(&verdict->in);
+    while (verdict_hears(verdict))
+        ;
     cut_off(verdict);
     verdict_end(verdict);
 }

@@ -33,7 +33,7 @@ bool verdict_hears(struct verdict *verdict);
 /* No more of the trace comes. Its status, as a shell says it. */
 int verdict_end(struct verdict *verdict);
 
-/* Nothing more is wanted of it: it is ended at once. */
+/* Nothing more is wanted of it: what it still tells is passed over, and where it tells nothing for a second it is killed. */
 void verdict_leaves(struct verdict *verdict);
 
 /*

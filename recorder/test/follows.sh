@@ -86,8 +86,7 @@ if wanted once && has_libdw once; then
     "$record" --quiet -- sh -c './live 0; ./kinds' 2>both.err </dev/null
     [ "$(runs_made)" -eq 2 ] && grep -q '^record: 3 reports, 0 circles, 2 processes$' both.err
     tell once "one verifier for processes that differ" $?
-    # Where nothing more is wanted of it the script alone is killed: what it runs complains then that nobody reads.
-    printf '#!/bin/sh\necho "$1" >>"%s/words"\n[ "$1" = findings ] || exec "%s" "$@"\nsed -u "s/^process /PROCESS /" | "%s" "$@" 2>/dev/null\n' \
+    printf '#!/bin/sh\necho "$1" >>"%s/words"\n[ "$1" = findings ] || exec "%s" "$@"\nsed -u "s/^process /PROCESS /" | "%s" "$@"\n' \
         "$work" "$verifier" "$verifier" >counting && rm -f words
     "$record" --quiet -- sh -c './live 0; ./kinds' 2>recorded.err </dev/null
     sed -i 's/^==[0-9]*== //' both.err recorded.err
