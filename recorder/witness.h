@@ -35,7 +35,7 @@
 
 /* The version of all that comes with this header, and the kit by which it is proved. */
 #define WITNESS_VERSION "0.5.0"
-#define WITNESS_KIT "rattle-kit-13b logic dac8208d650f15bf"
+#define WITNESS_KIT "rattle-kit-13f logic dac8208d650f15bf"
 
 enum { WITNESS_MUTEX, WITNESS_READ, WITNESS_WRITE };
 
