@@ -4,7 +4,7 @@
 #include <fcntl.h>
 #include <string.h>
 
-enum { TEXT_BYTES = 1 << 22, NAME_MOST = 200 };
+enum { TEXT_BYTES = 1 << 22, NAME_MOST = 200, UNSORTED = 8 };
 
 static char *text;
 static size_t text_used;
@@ -151,6 +151,12 @@ static void sort(struct symbol *symbols, uint32_t count)
         }
 }
 
+static struct symbol symbol_of(const struct elf *elf, uint32_t number)
+{
+    const ElfW(Sym) *symbol = &elf->table[number];
+    return (struct symbol){symbol->st_value, symbol->st_value + symbol->st_size, 0, number, symbol->st_name};
+}
+
 static void read_kind(struct elf *elf, int kind)
 {
     uint32_t count = 0, at = 0;
@@ -159,11 +165,9 @@ static void read_kind(struct elf *elf, int kind)
     struct symbol *symbols = count ? table(count * sizeof *symbols) : NULL;
     if (!symbols)
         return;
-    for (uint32_t i = 0; i < elf->table_count; i++) {
-        const ElfW(Sym) *symbol = &elf->table[i];
-        if (is_kept(symbol, kind))
-            symbols[at++] = (struct symbol){symbol->st_value, symbol->st_value + symbol->st_size, 0, i, symbol->st_name};
-    }
+    for (uint32_t i = 0; i < elf->table_count; i++)
+        if (is_kept(&elf->table[i], kind))
+            symbols[at++] = symbol_of(elf, i);
     sort(symbols, count);
     uint64_t furthest = 0;
     for (uint32_t i = 0; i < count; i++) {
@@ -174,24 +178,29 @@ static void read_kind(struct elf *elf, int kind)
     elf->kind[kind] = (struct symbols){symbols, count};
 }
 
-/* Reads the symbols once: there may be a hundred thousand, and a name is asked for at each place. */
-static void read_symbols(struct elf *elf)
+/* Finds the table of symbols, once. */
+static void find_table(struct elf *elf)
 {
-    if (elf->is_read)
+    if (elf->is_found)
         return;
-    elf->is_read = true;
-    if (!(elf->bytes && found_in_file(elf)) && !found_in_memory(elf)) {
+    elf->is_found = true;
+    if (!(elf->bytes && found_in_file(elf)) && !found_in_memory(elf))
         elf->table_count = 0;
-        return;
-    }
-    read_kind(elf, VARIABLES);
-    read_kind(elf, FUNCTIONS);
 }
 
-const struct symbol *elf_symbol(struct elf *elf, uint64_t address, int kind)
+/* The first one in the table that the address is in. */
+static const struct symbol *look_through(struct elf *elf, uint64_t address, int kind)
 {
-    read_symbols(elf);
-    const struct symbols *symbols = &elf->kind[kind];
+    for (uint32_t i = 0; i < elf->table_count; i++)
+        if (is_kept(&elf->table[i], kind) && address - elf->table[i].st_value < elf->table[i].st_size) {
+            elf->found = symbol_of(elf, i);
+            return &elf->found;
+        }
+    return NULL;
+}
+
+static const struct symbol *search(const struct symbols *symbols, uint64_t address)
+{
     uint32_t low = 0, high = symbols->count;
     while (low < high) {
         uint32_t middle = low + (high - low) / 2;
@@ -209,6 +218,25 @@ const struct symbol *elf_symbol(struct elf *elf, uint64_t address, int kind)
     return best;
 }
 
+/*
+ * There may be a hundred thousand symbols, and a name is asked for at each place. So they are sorted, but not for the first
+ * few: of most libraries one function is asked for, as of the one that calls main.
+ */
+const struct symbol *elf_symbol(struct elf *elf, uint64_t address, int kind)
+{
+    find_table(elf);
+    if (elf->asked < UNSORTED) {
+        elf->asked++;
+        return look_through(elf, address, kind);
+    }
+    if (!elf->is_sorted) {
+        elf->is_sorted = true;
+        read_kind(elf, VARIABLES);
+        read_kind(elf, FUNCTIONS);
+    }
+    return search(&elf->kind[kind], address);
+}
+
 const char *elf_name(const struct elf *elf, uint32_t name)
 {
     if (name >= elf->strings_size)
@@ -219,12 +247,12 @@ const char *elf_name(const struct elf *elf, uint32_t name)
 
 const char *elf_file_of(const struct elf *elf, const struct symbol *symbol)
 {
-    const struct symbols *variables = &elf->kind[VARIABLES];
     bool shared = false;
     if (ELF64_ST_BIND(elf->table[symbol->number].st_info) != STB_LOCAL)
         return "";
-    for (uint32_t i = 0; i < variables->count && !shared; i++)
-        shared = variables->symbol[i].name == symbol->name && variables->symbol[i].from != symbol->from;
+    for (uint32_t i = 0; i < elf->table_count && !shared; i++)
+        shared = is_kept(&elf->table[i], VARIABLES) && elf->table[i].st_name == symbol->name
+            && elf->table[i].st_value != symbol->from;
     for (uint32_t i = symbol->number; shared && i-- > 0;)
         if (ELF64_ST_TYPE(elf->table[i].st_info) == STT_FILE)
             return elf_name(elf, elf->table[i].st_name);

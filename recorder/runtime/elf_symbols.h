@@ -43,7 +43,10 @@ struct elf {
     uint64_t table_count;
     const char *strings;
     uint64_t strings_size;
-    bool is_read; /* the symbols are */
+    bool is_found;       /* the table was looked for */
+    bool is_sorted;      /* its symbols stand in `kind` */
+    uint32_t asked;      /* how often before that */
+    struct symbol found; /* the last answer before that */
     struct symbols kind[KINDS];
 };
 
@@ -63,7 +66,10 @@ void elf_opens(struct elf *elf, const char *path, const ElfW(Phdr) * segments, u
 uintptr_t dynamic_word(const ElfW(Dyn) * entries, ElfW(Sxword) tag);
 const void *dynamic_pointer(const ElfW(Dyn) * entries, ElfW(Sxword) tag, uintptr_t bias);
 
-/* The symbol that the address is in, NULL where there is none; of several, the first in the object's table. */
+/*
+ * The symbol that the address is in, NULL where there is none; of several, the first in the object's table. It stays up to
+ * the next call.
+ */
 const struct symbol *elf_symbol(struct elf *elf, uint64_t address, int kind);
 
 /* The symbol's name, kept. */

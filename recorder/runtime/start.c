@@ -324,10 +324,9 @@ void fork_is_watched(void)
 /* That free and malloc_usable_size are of one object: else sizes can't be believed. */
 static bool sizes_are_known(void)
 {
-    Dl_info of_free, of_size;
-    void *size = dlsym(RTLD_DEFAULT, "malloc_usable_size");
-    void *given = dlsym(RTLD_NEXT, "free");
-    return size && given && dladdr(size, &of_size) && dladdr(given, &of_free) && of_size.dli_fbase == of_free.dli_fbase;
+    void *size = dlsym(RTLD_DEFAULT, "malloc_usable_size"), *given = dlsym(RTLD_NEXT, "free");
+    uint32_t object = given ? object_of((uintptr_t)given, true) : 0;
+    return size && object && object == object_of((uintptr_t)size, true);
 }
 
 /* What is to be known of the process before it goes on. */

@@ -59,6 +59,14 @@ if wanted orphans; then
     record=$recorder/record
 fi
 
+if wanted elfsymbols; then
+    sed "s#\.\./runtime/elf_symbols.c#$recorder/runtime/elf_symbols.c#" "$here/elfsymbols.c" >elfsymbols.c
+    printf 'many variables, 0 wrong\nmany functions, 0 wrong\n' >wanted
+    "${CC:-cc}" -std=c11 -D_GNU_SOURCE -g -Wall -Wextra -Werror -I"$recorder" -I"$recorder/runtime" -o elfsymbols elfsymbols.c &&
+        ./elfsymbols | diff wanted -
+    tell elfsymbols "the symbol of an address, sorted or not" $?
+fi
+
 # Stacks: of requests, of what was held as far as they are known, and through functions that are
 # passed over. A helper that was called a thousand times from one place has no more.
 RECORD_FRAMES=8 want=helper.held example helper "callers"
