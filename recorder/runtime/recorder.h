@@ -798,6 +798,7 @@ bool stream_has_file(void); /* else their lines are judged alone */
 void count_missed(enum missed what);
 bool stream_made(void);
 void stream_forked(void);
+void stream_is_left(void); /* by a child that has none of its own */
 void stream_end(void);
 
 /* memory_lock.c */

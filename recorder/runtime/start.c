@@ -214,10 +214,18 @@ COLD bool thread_opens(struct thread *thread, uintptr_t stack)
 /* Takes a call inside that isn't a request. False where it isn't recorded. */
 bool goes_far_inside(uintptr_t stack)
 {
-    if (self.state != OPEN && !thread_opens(&self, stack))
+    if (is_asleep() || (self.state != OPEN && !thread_opens(&self, stack)))
         return false;
     self.state = stack;
     return true;
+}
+
+/* The process records no more: its calls are passed on at once. */
+static void falls_asleep(void)
+{
+    atomic_store(&recording, false);
+    atomic_store(&asleep, true);
+    stream_is_left();
 }
 
 /* A child whose fork wasn't seen has no trace, and the tables may be half changed. That is counted once. */
@@ -227,6 +235,7 @@ static void stops_in_child(void)
     atomic_store(&recording, false);
     if (atomic_exchange(&counted, true))
         return;
+    falls_asleep();
     status_begins();
     count_failure(FAILED_FORKED);
 }
@@ -300,7 +309,7 @@ static void begin_child(void *unused)
 static void fork_ends_in_child(void)
 {
     if (!forks) {
-        atomic_store(&recording, false);
+        falls_asleep();
         return;
     }
     *alive = 1;

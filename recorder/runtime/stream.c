@@ -330,6 +330,14 @@ void count_missed(enum missed what)
     judge_missed(what);
 }
 
+/* The page is the process's own from here on. False where there is no memory. */
+static bool page_is_own(void)
+{
+    return all_slow
+        || mmap(asked_page, PAGE_BYTES, PROT_READ | PROT_WRITE, MAP_PRIVATE | MAP_ANONYMOUS | MAP_FIXED, -1, 0)
+        != MAP_FAILED;
+}
+
 static void unmap(void)
 {
     if (!stream.first)
@@ -337,8 +345,7 @@ static void unmap(void)
     if (stream.first != stream.end - WINDOW)
         table_goes(stream.first, WINDOW);
     table_goes(stream.end - WINDOW, WINDOW);
-    if (!all_slow)
-        mmap(asked_page, PAGE_BYTES, PROT_READ | PROT_WRITE, MAP_PRIVATE | MAP_ANONYMOUS | MAP_FIXED, -1, 0);
+    page_is_own();
     stream.at = stream.ready = stream.end = stream.first = NULL;
     stream.offset = 0;
 }
@@ -352,6 +359,13 @@ void stream_forked(void)
     stream.is_long = false;
     stream.begun = stream.ended = false;
     file_is_made();
+}
+
+/* The stream is that of another process. No call takes the quick way from here on, which knows of no sleep. */
+void stream_is_left(void)
+{
+    if (page_is_own())
+        asked_page[ASKED_AT] = ASKED_ALWAYS;
 }
 
 /* The process ends: a file without a line goes. Where it locks after all, it is made anew. */

@@ -59,6 +59,17 @@ if wanted orphans; then
     record=$recorder/record
 fi
 
+# It isn't recorded, which is told, and runs as without the recorder.
+if wanted unwatched; then
+    compile unwatched
+    for requests in new all; do
+        "$(recorder_of $requests)" -- ./unwatched >recorded.out 2>recorded.err
+        [ $? -eq 0 ] && [ "$(cat recorded.out)" = "status 0, signal 0" ] &&
+            grep -q 'not recorded: 1 process whose fork was not seen' recorded.err
+        tell unwatched "a child in a sandbox whose fork isn't seen ($requests requests)" $?
+    done
+fi
+
 if wanted elfsymbols; then
     sed "s#\.\./runtime/elf_symbols.c#$recorder/runtime/elf_symbols.c#" "$here/elfsymbols.c" >elfsymbols.c
     printf 'many variables, 0 wrong\nmany functions, 0 wrong\n' >wanted
