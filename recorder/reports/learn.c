@@ -20,7 +20,7 @@ struct ending_run {
     struct run *run;
     const char *name; /* the file as it was named */
     char *path;
-    struct learnt learnt;
+    struct run_orders orders;
     struct judgement judgement;
     struct found *found; /* what is reported, for the files that are written of it; NULL where none is wanted */
     size_t added;        /* new orders that are against none */
@@ -55,21 +55,21 @@ static bool is_writable(const char *path)
 
 void learn_check(const struct settings *settings)
 {
-    struct learnt learnt = {0};
+    struct run_orders orders = {0};
     const char *file = is_asked(settings->learn) ? settings->learn : settings->known;
-    char *path = learnt_path(file), *why = NULL;
+    char *path = orders_file_path(file), *why = NULL;
     bool is_written_to = is_asked(settings->learn) && written_is_special(path);
     if (is_written_to)
         written_check(path);
     else if (is_asked(settings->learn) && !is_writable(path))
         refuse_target("%s can't be written: %s", file, strerror(errno));
     if (!is_written_to && (!is_asked(settings->learn) || is_there(path)))
-        why = learnt_read(&learnt, settings->witness, (char *[]){path, NULL}, NULL);
-    if (why && learnt.has_failed)
+        why = run_orders_read(&orders, settings->witness, (char *[]){path, NULL}, NULL);
+    if (why && orders.has_failed)
         fail("%s", why);
     if (why)
         refuse_target("%s", why);
-    learnt_end(&learnt);
+    run_orders_end(&orders);
     free(path);
 }
 
@@ -87,7 +87,7 @@ static void take_finding(struct ending_run *ending, size_t number)
 static void tell_report_of(struct ending_run *ending, size_t number)
 {
     struct run *run = ending->run;
-    const struct learnt_order *order = &ending->learnt.order[ending->judgement.closing[number]];
+    const struct run_order *order = &ending->orders.order[ending->judgement.closing[number]];
     char *text = NULL;
     size_t length = 0;
     if (!order->is_met) {
@@ -126,8 +126,8 @@ static void tell_reports_of(struct ending_run *ending)
 static void tell_new(struct ending_run *ending)
 {
     struct run *run = ending->run;
-    for (size_t i = 0; i < ending->learnt.orders; i++) {
-        const struct learnt_order *order = &ending->learnt.order[i];
+    for (size_t i = 0; i < ending->orders.count; i++) {
+        const struct run_order *order = &ending->orders.order[i];
         ending->added += order->is_new && !order->is_against;
         if (!order->is_new || (!order->is_against && is_asked(run->settings.learn)))
             continue;
@@ -170,8 +170,8 @@ static void judge_and_tell(struct ending_run *ending)
 {
     struct run *run = ending->run;
     if (is_asked(run->settings.ignore))
-        learnt_ignore(&ending->learnt, run->settings.ignore);
-    learnt_judge(&ending->learnt, run->settings.witness, &ending->judgement);
+        run_orders_ignore(&ending->orders, run->settings.ignore);
+    run_orders_judge(&ending->orders, run->settings.witness, &ending->judgement);
     if (ending->judgement.failed) {
         tell_failure(ending, ending->judgement.failed);
         return;
@@ -179,7 +179,7 @@ static void judge_and_tell(struct ending_run *ending)
     tell_reports_of(ending);
     tell_new(ending);
     run->has_new = ending->added > 0;
-    char *why = is_asked(run->settings.learn) ? learnt_write(&ending->learnt, ending->path) : NULL;
+    char *why = is_asked(run->settings.learn) ? orders_file_write(&ending->orders, ending->path) : NULL;
     if (why) {
         run->unknown = true;
         say(&run->output, "%s: nothing is learnt", why);
@@ -196,16 +196,17 @@ void learn_tell(struct run *run)
         return;
     bool is_learnt = is_asked(run->settings.learn);
     struct ending_run ending = {.run = run, .name = is_learnt ? run->settings.learn : run->settings.known};
-    ending.path = learnt_path(ending.name);
+    ending.path = orders_file_path(ending.name);
     int lock = -1;
-    if (is_learnt && !learnt_lock(ending.path, &lock)) {
+    if (is_learnt && !orders_file_lock(ending.path, &lock)) {
         say(&run->output, "%s.lock can't be written: %s: nothing is learnt", ending.path, strerror(errno));
         run->unknown = true;
     } else {
         /* Other runs may have written to it since this one began. */
         bool has_known = !is_learnt || (is_there(ending.path) && !written_is_special(ending.path));
         char *files[] = {has_known ? ending.path : NULL, NULL};
-        char *why = learnt_read(&ending.learnt, run->settings.witness, files, run->learning ? &run->learning->met : NULL);
+        char *why =
+            run_orders_read(&ending.orders, run->settings.witness, files, run->learning ? &run->learning->met : NULL);
         if (why)
             tell_failure(&ending, why);
         else
@@ -215,7 +216,7 @@ void learn_tell(struct run *run)
     if (lock >= 0)
         close(lock);
     judgement_end(&ending.judgement);
-    learnt_end(&ending.learnt);
+    run_orders_end(&ending.orders);
     free(ending.path);
 }
 
@@ -223,7 +224,7 @@ void learn_end(struct run *run)
 {
     if (!run->learning)
         return;
-    learnt_end(&run->learning->met);
+    run_orders_end(&run->learning->met);
     map_end(&run->learning->nameless);
     free(run->learning);
 }

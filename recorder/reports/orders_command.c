@@ -92,12 +92,12 @@ static void end_for(const char *why, bool has_failed, const char *done)
         refuse_target("%s", why);
 }
 
-static void read_files(struct learnt *learnt, const char *witness, char **files, const char *done)
+static void read_files(struct run_orders *orders, const char *witness, char **files, const char *done)
 {
     if (!*files)
         refuse("no file is named");
-    const char *why = learnt_read(learnt, witness, files, NULL);
-    end_for(why, learnt->has_failed, done);
+    const char *why = run_orders_read(orders, witness, files, NULL);
+    end_for(why, orders->has_failed, done);
 }
 
 /* What was written to standard output is there, or it is told that it isn't. */
@@ -111,37 +111,37 @@ static int status_of_output(int status)
 
 static int merge(const char *witness, char **words)
 {
-    struct learnt learnt = {0};
+    struct run_orders orders = {0};
     struct wanted wanted;
     char **files = read_options(&wanted, words, false), *why = NULL;
-    char *path = wanted.to ? learnt_path(wanted.to) : NULL;
+    char *path = wanted.to ? orders_file_path(wanted.to) : NULL;
     int lock = -1;
-    if (path && !learnt_lock(path, &lock))
+    if (path && !orders_file_lock(path, &lock))
         fail("%s.lock can't be written: %s", path, strerror(errno));
-    read_files(&learnt, witness, files, "merged");
+    read_files(&orders, witness, files, "merged");
     if (path)
-        why = learnt_write(&learnt, path);
+        why = orders_file_write(&orders, path);
     else
-        learnt_print(stdout, &learnt);
+        orders_file_print(stdout, &orders);
     if (why)
         fail("%s", why);
     free(path);
-    learnt_end(&learnt);
+    run_orders_end(&orders);
     return status_of_output(0);
 }
 
-static size_t count_ignored(const struct learnt *learnt)
+static size_t count_ignored(const struct run_orders *orders)
 {
     size_t ignored = 0;
-    for (size_t i = 0; i < learnt->orders; i++)
-        ignored += learnt->order[i].is_ignored;
+    for (size_t i = 0; i < orders->count; i++)
+        ignored += orders->order[i].is_ignored;
     return ignored;
 }
 
 /* What is known of all orders, as a text of one's own. Of those that are ignored nothing is. */
-static char *verdict_of(const struct learnt *learnt, const struct judgement *judgement)
+static char *verdict_of(const struct run_orders *orders, const struct judgement *judgement)
 {
-    const char *ignored = count_ignored(learnt) > 0 ? " and the ignored ones" : "";
+    const char *ignored = count_ignored(orders) > 0 ? " and the ignored ones" : "";
     const char *alone = judgement->against == 1 ? "it" : "these";
     if (judgement->against > 0)
         return say_text("%zu order%s against others, and no circle without %s%s", judgement->against,
@@ -153,26 +153,26 @@ static char *verdict_of(const struct learnt *learnt, const struct judgement *jud
 }
 
 /* The last line, without its head. */
-static char *summary_of(const struct learnt *learnt, const struct judgement *judgement)
+static char *summary_of(const struct run_orders *orders, const struct judgement *judgement)
 {
-    char *verdict = verdict_of(learnt, judgement);
-    char *orders = say_count(learnt->orders, "order", "s"), *types = say_count(learnt->types.count, "type", "s");
-    char *runs = say_count(learnt->runs, "run", "s");
-    char *summary = say_text("%s: %s, %s, %s", verdict, orders, types, runs);
+    char *verdict = verdict_of(orders, judgement);
+    char *count = say_count(orders->count, "order", "s"), *types = say_count(orders->types.count, "type", "s");
+    char *runs = say_count(orders->runs, "run", "s");
+    char *summary = say_text("%s: %s, %s, %s", verdict, count, types, runs);
     free(verdict);
-    free(orders);
+    free(count);
     free(types);
     free(runs);
     return summary;
 }
 
 /* The reports and the last line. The status. */
-static int tell(const struct learnt *learnt, const struct judgement *judgement, bool suppressions, const char *summary)
+static int tell(const struct run_orders *orders, const struct judgement *judgement, bool suppressions, const char *summary)
 {
     int status = judgement->against > 0 ? FOUND : 0;
     for (size_t i = 0; i < judgement->reports.count; i++)
         report_write(stdout, &judgement->reports.report[i], false, suppressions);
-    size_t ignored = count_ignored(learnt);
+    size_t ignored = count_ignored(orders);
     if (ignored > 0)
         printf("orders: %zu of them %s ignored\n", ignored, ignored == 1 ? "is" : "are");
     printf("orders: %s\n", summary);
@@ -181,27 +181,27 @@ static int tell(const struct learnt *learnt, const struct judgement *judgement, 
 
 static int judge(const char *witness, char **words)
 {
-    struct learnt learnt = {0};
+    struct run_orders orders = {0};
     struct wanted wanted;
     struct judgement judgement;
     char **files = read_options(&wanted, words, true);
     wanted.drawing.witness = witness;
     drawing_check(&wanted.drawing);
-    read_files(&learnt, witness, files, "judged");
+    read_files(&orders, witness, files, "judged");
     if (wanted.ignore) {
         prepare_files(&(struct settings){.ignore = wanted.ignore});
-        learnt_ignore(&learnt, wanted.ignore);
+        run_orders_ignore(&orders, wanted.ignore);
     }
-    learnt_judge(&learnt, witness, &judgement);
+    run_orders_judge(&orders, witness, &judgement);
     if (judgement.failed)
         fail("%s: nothing is judged", judgement.failed);
-    char *summary = summary_of(&learnt, &judgement);
-    int status = tell(&learnt, &judgement, wanted.suppressions, summary);
-    if (!draw_learnt(&wanted.drawing, &learnt, &judgement, summary))
+    char *summary = summary_of(&orders, &judgement);
+    int status = tell(&orders, &judgement, wanted.suppressions, summary);
+    if (!run_orders_draw(&wanted.drawing, &orders, &judgement, summary))
         status = FAILED;
     free(summary);
     judgement_end(&judgement);
-    learnt_end(&learnt);
+    run_orders_end(&orders);
     return status_of_output(status);
 }
 

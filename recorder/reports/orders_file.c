@@ -10,12 +10,12 @@
 #include "allocation.h"
 #include "output_files.h"
 
-char *learnt_path(const char *path)
+char *orders_file_path(const char *path)
 {
     return written_is_special(path) ? copy(path) : written_end(path);
 }
 
-bool learnt_lock(const char *path, int *lock)
+bool orders_file_lock(const char *path, int *lock)
 {
     *lock = -1;
     if (written_is_special(path))
@@ -35,26 +35,26 @@ bool learnt_lock(const char *path, int *lock)
     return *lock >= 0;
 }
 
-static bool is_kept(const struct learnt_order *order)
+static bool is_kept(const struct run_order *order)
 {
     return !(order->is_new && order->is_against);
 }
 
-void learnt_print(FILE *to, const struct learnt *learnt)
+void orders_file_print(FILE *to, const struct run_orders *orders)
 {
-    for (size_t i = 0; i < learnt->orders; i++) {
-        const struct learnt_order *order = &learnt->order[i];
+    for (size_t i = 0; i < orders->count; i++) {
+        const struct run_order *order = &orders->order[i];
         if (is_kept(order))
             fprintf(to, "%s%s%s\n", order->key, *order->origin ? "\t# " : "", order->origin);
     }
 }
 
 /* `runs N`, then `COUNT LAST ORDER` for each. */
-static void print_counts(FILE *to, const struct learnt *learnt)
+static void print_counts(FILE *to, const struct run_orders *orders)
 {
-    fprintf(to, "runs %lu\n", learnt->runs ? learnt->runs : 1);
-    for (size_t i = 0; i < learnt->orders; i++) {
-        const struct learnt_order *order = &learnt->order[i];
+    fprintf(to, "runs %lu\n", orders->runs ? orders->runs : 1);
+    for (size_t i = 0; i < orders->count; i++) {
+        const struct run_order *order = &orders->order[i];
         if (is_kept(order) && order->last)
             fprintf(to, "%lu %lu %s\n", order->runs, order->last, order->key);
         else if (is_kept(order))
@@ -63,23 +63,23 @@ static void print_counts(FILE *to, const struct learnt *learnt)
 }
 
 /* 0, or why that can't be. */
-static int write_to(const char *path, const struct learnt *learnt, void (*print)(FILE *, const struct learnt *))
+static int write_to(const char *path, const struct run_orders *orders, void (*print)(FILE *, const struct run_orders *))
 {
     struct written written;
     int why = written_begins(&written, path);
     if (why)
         return why;
-    print(written.to, learnt);
+    print(written.to, orders);
     return written_ends(&written);
 }
 
-char *learnt_write(const struct learnt *learnt, const char *path)
+char *orders_file_write(const struct run_orders *orders, const char *path)
 {
     char *beside = say_text("%s.runs", path), *told = NULL;
-    int why = write_to(path, learnt, learnt_print);
+    int why = write_to(path, orders, orders_file_print);
     if (why)
         told = say_text("%s can't be written: %s", path, strerror(why));
-    else if (!written_is_special(path) && (why = write_to(beside, learnt, print_counts)) != 0)
+    else if (!written_is_special(path) && (why = write_to(beside, orders, print_counts)) != 0)
         told = say_text("%s can't be written: %s", beside, strerror(why));
     free(beside);
     return told;

@@ -8,13 +8,13 @@
 #include "orders_asked.h"
 
 /* `COUNT [LAST] ORDER` as the program writes it. False where it is something else. */
-static bool take_row(struct learnt *learnt, const char *line)
+static bool take_row(struct run_orders *orders, const char *line)
 {
     char *at;
     unsigned long runs = strtoul(line, &at, 10), last = 0;
     if (*at == ' ' && isdigit((unsigned char)at[1]))
         last = strtoul(at + 1, &at, 10);
-    struct learnt_order *order = runs > 0 && *at == ' ' ? learnt_add(learnt, at + 1) : NULL;
+    struct run_order *order = runs > 0 && *at == ' ' ? run_orders_add(orders, at + 1) : NULL;
     if (!order)
         return false;
     order->runs = runs;
@@ -22,22 +22,22 @@ static bool take_row(struct learnt *learnt, const char *line)
     return true;
 }
 
-static bool take_rows(struct learnt *learnt, char *told)
+static bool take_rows(struct run_orders *orders, char *told)
 {
     char *rest, *line = strtok_r(told, "\n", &rest);
-    if (!line || sscanf(line, "runs %lu", &learnt->runs) != 1)
+    if (!line || sscanf(line, "runs %lu", &orders->runs) != 1)
         return false;
-    while ((line = strtok_r(NULL, "\n", &rest)) && take_row(learnt, line))
+    while ((line = strtok_r(NULL, "\n", &rest)) && take_row(orders, line))
         ;
     return !line;
 }
 
 /* A run that met orders is the last one. */
-static void give_met(struct orders_asked *asked, const struct learnt *met)
+static void give_met(struct orders_asked *asked, const struct run_orders *met)
 {
     asked_line(asked, "\tfile");
-    for (size_t i = 0; i < met->orders; i++) {
-        const struct learnt_order *order = &met->order[i];
+    for (size_t i = 0; i < met->count; i++) {
+        const struct run_order *order = &met->order[i];
         char *line = say_text("%s%s%s", order->key, *order->origin ? "\t# " : "", order->origin);
         asked_line(asked, line);
         free(line);
@@ -45,11 +45,11 @@ static void give_met(struct orders_asked *asked, const struct learnt *met)
 }
 
 /* What the run that ended just now knows of its orders. An order that only one run met is new. */
-static void join(struct learnt *learnt, const struct learnt *met)
+static void join(struct run_orders *orders, const struct run_orders *met)
 {
-    for (size_t i = 0; i < met->orders; i++) {
-        const struct learnt_order *mine = &met->order[i];
-        struct learnt_order *order = learnt_find(learnt, mine->key);
+    for (size_t i = 0; i < met->count; i++) {
+        const struct run_order *mine = &met->order[i];
+        struct run_order *order = run_orders_find(orders, mine->key);
         if (!order)
             continue;
         order->is_met = true;
@@ -57,11 +57,11 @@ static void join(struct learnt *learnt, const struct learnt *met)
         order->asked_as = i;
         order->is_told = mine->is_told;
         if (order->is_new)
-            learnt_tell_here(learnt, order, mine->asked, mine->held);
+            run_orders_note_here(orders, order, mine->asked, mine->held);
     }
 }
 
-char *learnt_read(struct learnt *learnt, const char *witness, char *const *files, const struct learnt *met)
+char *run_orders_read(struct run_orders *orders, const char *witness, char *const *files, const struct run_orders *met)
 {
     struct orders_asked asked;
     asked_begin(&asked, witness, "merge", NULL);
@@ -70,13 +70,13 @@ char *learnt_read(struct learnt *learnt, const char *witness, char *const *files
     if (met)
         give_met(&asked, met);
     char *why = asked_answer(&asked);
-    learnt->has_failed = asked.has_failed;
-    if (!why && !take_rows(learnt, asked.told)) {
+    orders->has_failed = asked.has_failed;
+    if (!why && !take_rows(orders, asked.told)) {
         why = say_text("%s answers something else than the orders", witness);
-        learnt->has_failed = true;
+        orders->has_failed = true;
     }
     if (!why && met)
-        join(learnt, met);
+        join(orders, met);
     asked_end(&asked);
     return why;
 }

@@ -22,20 +22,20 @@ void drawing_check(const struct drawing *drawing)
 }
 
 /* Where its second type was asked for. */
-static char *site_of(const struct learnt_order *order)
+static char *site_of(const struct run_order *order)
 {
     const char *end = strstr(order->origin, " while ");
     return copy_bytes(order->origin, end ? (size_t)(end - order->origin) : strlen(order->origin));
 }
 
-static void add_orders(struct order_list *orders, const struct learnt *learnt, const struct reports *reports)
+static void add_orders(struct order_list *list, const struct run_orders *orders, const struct reports *reports)
 {
-    for (size_t i = 0; i < learnt->orders; i++) {
-        const struct learnt_order *order = &learnt->order[i];
+    for (size_t i = 0; i < orders->count; i++) {
+        const struct run_order *order = &orders->order[i];
         const char *from = order->from.name, *to = order->to.name;
         if (order->is_ignored)
             continue;
-        ADD(orders->order, orders->count, orders->room) = (struct order){
+        ADD(list->order, list->count, list->room) = (struct order){
             .from = copy(from),
             .to = copy(to),
             .site = site_of(order),
@@ -46,7 +46,7 @@ static void add_orders(struct order_list *orders, const struct learnt *learnt, c
 }
 
 /* The report that both are made of. The judgement's reports are its own from here on. */
-static void begin_report(struct findings *findings, const struct learnt *learnt, struct judgement *judgement,
+static void begin_report(struct findings *findings, const struct run_orders *orders, struct judgement *judgement,
     const char *summary)
 {
     *findings = (struct findings){.command = "orders",
@@ -54,7 +54,7 @@ static void begin_report(struct findings *findings, const struct learnt *learnt,
         .program = "all files together",
         .ended = time(NULL)};
     struct found *found = findings_add(findings, findings->program, 0);
-    add_orders(&found->orders, learnt, &judgement->reports);
+    add_orders(&found->orders, orders, &judgement->reports);
     found->has_orders = true;
     found->notes = judgement->notes;
     found->reports = judgement->reports;
@@ -74,14 +74,14 @@ static bool write_page(const char *path, const char *witness, struct findings *f
     return to && fclose(to) == 0 && is_written;
 }
 
-bool draw_learnt(const struct drawing *drawing, const struct learnt *learnt, struct judgement *judgement,
+bool run_orders_draw(const struct drawing *drawing, const struct run_orders *orders, struct judgement *judgement,
     const char *summary)
 {
     struct findings findings;
     size_t length = 0;
     if (!drawing->graph && !drawing->html)
         return true;
-    begin_report(&findings, learnt, judgement, summary);
+    begin_report(&findings, orders, judgement, summary);
     char *report = document_report(&findings, &length);
     char *failed = drawing->graph ? graphs_draw(drawing->graph, drawing->witness, &findings, report, length) : NULL;
     bool is_page = !drawing->html || write_page(drawing->html, drawing->witness, &findings, report, length);
