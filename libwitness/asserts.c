@@ -5,9 +5,9 @@
  */
 #include "judge.h"
 #include "judge_place.h"
+#include "lock_lines.h"
 #include "names.h"
 #include "report_action.h"
-#include "lock_lines.h"
 
 struct question {
     enum witness_kind kind;

@@ -8,9 +8,9 @@
 #include "judge.h"
 
 #include "judge_place.h"
+#include "lock_lines.h"
 #include "names.h"
 #include "report_action.h"
-#include "lock_lines.h"
 
 #include <string.h>
 

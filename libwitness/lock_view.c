@@ -1,8 +1,8 @@
 /* What a program asks to be shown (witness_show): which locks are held, as the verifier and the mutexes themselves say. */
 #include "judge_place.h"
 #include "libwitness.h"
-#include "names.h"
 #include "lock_lines.h"
+#include "names.h"
 
 #include <errno.h>
 #include <unistd.h>

@@ -6,12 +6,12 @@
 #include <string.h>
 #include <unistd.h>
 
-#include "files.h"
-#include "findings_run.h"
 #include "allocation.h"
+#include "files.h"
 #include "orders_file.h"
 #include "orders_verdict.h"
 #include "output_files.h"
+#include "report_files.h"
 #include "report_text.h"
 #include "usage.h"
 
@@ -74,7 +74,7 @@ void learn_check(const struct settings *settings)
 }
 
 /* For the files that are written of the run's reports. */
-static void take_finding(struct ending_run *ending, size_t number)
+static void take_report(struct ending_run *ending, size_t number)
 {
     struct report *report = &ending->judgement.reports.report[number];
     if (!ending->found)
@@ -99,12 +99,12 @@ static void tell_report_of(struct ending_run *ending, size_t number)
     FILE *to = order->is_told ? NULL : open_memstream(&text, &length);
     if (!to)
         return;
-    report_write(to, &ending->judgement.reports.report[number], false, run->settings.suppressions);
+    report_write(to, &ending->judgement.reports.report[number], false, run->settings.ignore_lines);
     fclose(to);
     run->reports++;
     tell_report(&run->output, text, length);
     free(text);
-    take_finding(ending, number);
+    take_report(ending, number);
 }
 
 /* They are as of a process of the program, which has no trace of its own. */
@@ -112,8 +112,8 @@ static void tell_reports_of(struct ending_run *ending)
 {
     struct run *run = ending->run;
     struct judgement *judgement = &ending->judgement;
-    if (judgement->reports.count > 0 && findings_are_wanted(&run->settings))
-        ending->found = findings_add(&run->findings, run->settings.program, run->process);
+    if (judgement->reports.count > 0 && report_files_are_wanted(&run->settings))
+        ending->found = run_reports_add(&run->gathered, run->settings.program, run->process);
     for (size_t i = 0; i < judgement->reports.count; i++)
         tell_report_of(ending, i);
     if (!ending->found)

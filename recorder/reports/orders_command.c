@@ -7,8 +7,9 @@
 #include <string.h>
 
 #include "allocation.h"
-#include "orders_asked.h"
+#include "files.h"
 #include "orders_file.h"
+#include "orders_question.h"
 #include "orders_verdict.h"
 #include "output_files.h"
 #include "prepare.h"
@@ -42,7 +43,7 @@ static const char text[] =
 struct wanted {
     const char *ignore, *to;
     struct drawing drawing;
-    bool suppressions;
+    bool ignore_lines;
 };
 
 /* The word after the option, which goes on to the next one. */
@@ -76,7 +77,7 @@ static char **read_options(struct wanted *wanted, char **words, bool is_judge)
         else if (is_judge && strcmp(*words, "--html") == 0)
             wanted->drawing.html = file_after(&words);
         else if (is_judge && strcmp(*words, "--gen-suppressions") == 0)
-            wanted->suppressions = true;
+            wanted->ignore_lines = true;
         else
             refuse("there is no option %s here", *words);
     }
@@ -167,11 +168,11 @@ static char *summary_of(const struct run_orders *orders, const struct judgement 
 }
 
 /* The reports and the last line. The status. */
-static int tell(const struct run_orders *orders, const struct judgement *judgement, bool suppressions, const char *summary)
+static int tell(const struct run_orders *orders, const struct judgement *judgement, bool ignore_lines, const char *summary)
 {
     int status = judgement->against > 0 ? FOUND : 0;
     for (size_t i = 0; i < judgement->reports.count; i++)
-        report_write(stdout, &judgement->reports.report[i], false, suppressions);
+        report_write(stdout, &judgement->reports.report[i], false, ignore_lines);
     size_t ignored = count_ignored(orders);
     if (ignored > 0)
         printf("orders: %zu of them %s ignored\n", ignored, ignored == 1 ? "is" : "are");
@@ -196,7 +197,7 @@ static int judge(const char *witness, char **words)
     if (judgement.failed)
         fail("%s: nothing is judged", judgement.failed);
     char *summary = summary_of(&orders, &judgement);
-    int status = tell(&orders, &judgement, wanted.suppressions, summary);
+    int status = tell(&orders, &judgement, wanted.ignore_lines, summary);
     if (!run_orders_draw(&wanted.drawing, &orders, &judgement, summary))
         status = FAILED;
     free(summary);
@@ -206,45 +207,46 @@ static int judge(const char *witness, char **words)
 }
 
 /* What the program makes of the files. */
-static void ask_of(struct orders_asked *asked, const char *witness, const char *word, const char *number, char **files)
+static void ask_of(struct orders_question *question, const char *witness, const char *word, const char *number,
+    char **files)
 {
     if (!*files)
         refuse("no file is named");
-    asked_begin(asked, witness, word, number);
+    question_begin(question, witness, word, number);
     for (; *files; files++)
-        asked_file(asked, *files);
-    const char *why = asked_answer(asked);
-    end_for(why, asked->has_failed, "told");
+        question_file(question, *files);
+    const char *why = question_answer(question);
+    end_for(why, question->has_failed, "told");
 }
 
 static int tell_text(const char *witness, char **words)
 {
-    struct orders_asked asked;
+    struct orders_question question;
     struct wanted wanted;
-    ask_of(&asked, witness, "text", NULL, read_options(&wanted, words, false));
-    fwrite(asked.told, 1, asked.length, stdout);
-    asked_end(&asked);
+    ask_of(&question, witness, "text", NULL, read_options(&wanted, words, false));
+    fwrite(question.told, 1, question.length, stdout);
+    question_end(&question);
     return status_of_output(0);
 }
 
 /* Its last line counts, and isn't for people. */
 static int tell_unseen(const char *witness, char **words)
 {
-    struct orders_asked asked;
+    struct orders_question question;
     unsigned long unseen, orders, unknown;
     if (!*words || **words < '1' || **words > '9' || (*words)[strspn(*words, "0123456789")])
         refuse("unseen takes a number of runs first, not %s", *words ? *words : "nothing");
-    ask_of(&asked, witness, "unseen", *words, words + 1);
-    char *last = asked.length > 0 ? memrchr(asked.told, '\n', asked.length - 1) : NULL;
-    last = last ? last + 1 : asked.told;
+    ask_of(&question, witness, "unseen", *words, words + 1);
+    char *last = question.length > 0 ? memrchr(question.told, '\n', question.length - 1) : NULL;
+    last = last ? last + 1 : question.told;
     if (sscanf(last, "unseen: %lu of %lu orders, unknown: %lu", &unseen, &orders, &unknown) != 3)
         fail("%s answers something else than the orders", witness);
-    fwrite(asked.told, 1, (size_t)(last - asked.told), stdout);
+    fwrite(question.told, 1, (size_t)(last - question.told), stdout);
     if (unknown > 0)
         fprintf(stderr,
             "orders: of %lu orders the runs weren't counted one by one, so it isn't known when they were met last\n",
             unknown);
-    asked_end(&asked);
+    question_end(&question);
     return status_of_output(unseen > 0 ? FOUND : 0);
 }
 

@@ -2,12 +2,10 @@
 
 #include <stdlib.h>
 #include <string.h>
-#include <unistd.h>
 
 #include "allocation.h"
-#include "files.h"
 #include "order_reports.h"
-#include "orders_asked.h"
+#include "orders_question.h"
 
 enum { INSET = 4 };
 
@@ -90,17 +88,17 @@ static bool read_told(struct judgement *judgement, struct run_orders *orders, ch
 
 void run_orders_judge(struct run_orders *orders, const char *witness, struct judgement *judgement)
 {
-    struct orders_asked asked;
+    struct orders_question question;
     size_t count = 0, *sequence = in_sequence(orders, &count);
     *judgement = (struct judgement){0};
-    asked_begin(&asked, witness, "judge", NULL);
+    question_begin(&question, witness, "judge", NULL);
     for (size_t i = 0; i < count; i++)
-        asked_line(&asked, orders->order[sequence[i]].key);
+        question_line(&question, orders->order[sequence[i]].key);
     free(sequence);
-    judgement->failed = asked_answer(&asked);
-    if (!judgement->failed && !read_told(judgement, orders, asked.told, count))
+    judgement->failed = question_answer(&question);
+    if (!judgement->failed && !read_told(judgement, orders, question.told, count))
         judgement->failed = say_text("%s answers something else than what is against them", witness);
-    asked_end(&asked);
+    question_end(&question);
 }
 
 void judgement_end(struct judgement *judgement)
@@ -110,17 +108,4 @@ void judgement_end(struct judgement *judgement)
     free(judgement->closing);
     free(judgement->failed);
     *judgement = (struct judgement){0};
-}
-
-const char *program_called(const char *here, const char *variable, const char *name)
-{
-    const char *named = getenv(variable);
-    if (named && *named)
-        return named;
-    char *top = file_folder(here), *program = say_text("%s/%s", top, name);
-    char *built = say_text("%s/crates/%s/out/%s", top, name, name);
-    bool is_built = access(program, X_OK) != 0 && access(built, X_OK) == 0;
-    free(top);
-    free(is_built ? program : built);
-    return is_built ? built : program;
 }

@@ -22,9 +22,4 @@ struct judgement {
 void run_orders_judge(struct run_orders *orders, const char *witness, struct judgement *judgement);
 void judgement_end(struct judgement *judgement);
 
-/*
- * The program of that name: the one that the variable names, else the one of the repository or of the installed tree.
- */
-const char *program_called(const char *here, const char *variable, const char *name);
-
 #endif

@@ -4,7 +4,7 @@
 #include <string.h>
 
 #include "allocation.h"
-#include "ignore.h"
+#include "ignore_file.h"
 #include "texts.h"
 
 /* `witness orders` reads no longer line. */
@@ -95,14 +95,14 @@ static bool are_called(const struct run_order *order, const char *first, const c
 
 void run_orders_ignore(struct run_orders *orders, const char *path)
 {
-    struct ignore ignore;
-    ignore_read(&ignore, path);
+    struct ignore_file ignore;
+    ignore_file_read(&ignore, path);
     for (size_t i = 0; i < ignore.pairs * orders->count; i++) {
         struct run_order *order = &orders->order[i % orders->count];
         const char *first = ignore.pair[i / orders->count].first, *second = ignore.pair[i / orders->count].second;
         order->is_ignored |= are_called(order, first, second) || are_called(order, second, first);
     }
-    ignore_end(&ignore);
+    ignore_file_end(&ignore);
 }
 
 void run_orders_end(struct run_orders *orders)

@@ -4,7 +4,7 @@
 #include <stdlib.h>
 #include <string.h>
 
-#include "ignore.h"
+#include "ignore_file.h"
 #include "libdw.h"
 #include "missed_calls.h"
 #include "resolve.h"
@@ -91,7 +91,7 @@ static bool is_matched(const struct run *run, unsigned long number)
 
 void tell_unmatched(struct run *run)
 {
-    const struct ignore *ignore = resolver_ignore(run->resolver);
+    const struct ignore_file *ignore = resolver_ignore(run->resolver);
     for (size_t i = 0; i < ignore->lines; i++) {
         const struct ignore_line *line = &ignore->line[i];
         if (!is_matched(run, line->number))

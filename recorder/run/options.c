@@ -6,6 +6,7 @@
 #include <unistd.h>
 
 #include "alarms.h"
+#include "allocation.h"
 #include "colour.h"
 #include "completion.h"
 #include "confirm.h"
@@ -13,7 +14,6 @@
 #include "files.h"
 #include "graph.h"
 #include "libwitness_mode.h"
-#include "allocation.h"
 #include "option_words.h"
 #include "output_files.h"
 #include "right_orders.h"
@@ -232,7 +232,7 @@ static const struct option known[] = {
     {"--error-exitcode", WORD, NUMBER(settings.error, 255)},
     {"--alarms", WORD, CALL(take_alarms)},
     {"--ignore", INPUT, CALL(take_ignore)},
-    {"--gen-suppressions", ALONE, FLAG(settings.suppressions)},
+    {"--gen-suppressions", ALONE, FLAG(settings.ignore_lines)},
     {"--learn", OUTPUT, TEXT(settings.learn)},
     {"--known", INPUT, TEXT(settings.known)},
     {"--confirm", MAYBE, CALL(take_confirm)},

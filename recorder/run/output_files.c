@@ -7,8 +7,8 @@
 #include <sys/stat.h>
 #include <unistd.h>
 
-#include "files.h"
 #include "allocation.h"
+#include "files.h"
 #include "usage.h"
 
 /* The kernel follows no more of them. */

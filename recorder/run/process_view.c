@@ -10,12 +10,12 @@
 #include <sys/stat.h>
 #include <unistd.h>
 
-#include "files.h"
-#include "mutex_question.h"
-#include "interrupts.h"
-#include "settings_file.h"
 #include "allocation.h"
+#include "files.h"
+#include "interrupts.h"
+#include "mutex_question.h"
 #include "prepare.h"
+#include "settings_file.h"
 #include "show.h"
 #include "usage.h"
 #include "version.h"

@@ -42,7 +42,7 @@ struct settings {
     int noise;                 /* --confirm=noise: the longest pause of a request, in milliseconds; 0 for none */
     const struct again *again; /* how the program is begun again (steered_run.h) */
     const char *colour;        /* --color; NULL is auto */
-    bool suppressions;
+    bool ignore_lines;
     bool judge;          /* --judge, which goes: whether the trace is one of locks is asked */
     bool no_errors;      /* --alarms no-errors: errors in the use of locks aren't told */
     bool in_debugger;    /* the program's process is a debugger's child */

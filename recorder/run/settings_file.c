@@ -4,8 +4,8 @@
 #include <stdlib.h>
 #include <string.h>
 
-#include "format.h"
 #include "allocation.h"
+#include "format.h"
 #include "source_names.h"
 
 /* A line of the word and its value, which may have a newline of its own. */

@@ -1,9 +1,9 @@
 #include "stream_file.h"
 
+#include "allocation.h"
 #include "files.h"
 #include "format.h"
 #include "line.h"
-#include "allocation.h"
 #include "source_names.h"
 
 #include <errno.h>

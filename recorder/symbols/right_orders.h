@@ -13,7 +13,7 @@
 #include <stddef.h>
 
 #include "declarations.h"
-#include "ignore.h"
+#include "ignore_file.h"
 #include "notes.h"
 #include "types.h"
 
