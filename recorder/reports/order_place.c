@@ -5,7 +5,7 @@
 #include <string.h>
 
 #include "allocation.h"
-#include "place_words.h"
+#include "code_words.h"
 #include "site_parts.h"
 
 /* `FUNCTION (FILE)`, or what is known of it; with the line in the file where that is wanted. */

@@ -27,7 +27,7 @@ struct run_order {
     } asked, held;         /* where a run that ended just now did so; else both are NULL */
     unsigned long runs;    /* in so many it was met */
     unsigned long last;    /* the number of the last of them, from 1 on; 0 where that isn't known */
-    size_t asked_as;       /* its place among those that the run that ended just now met, as they were asked for */
+    size_t asked_as;       /* its index among those that the run that ended just now met, as they were asked for */
     bool is_met;           /* the run that ended just now met it */
     bool is_new;           /* no file has it */
     bool is_ignored;       /* the user allows either order of its types: it isn't judged */

@@ -1,7 +1,6 @@
 #include "confirm.h"
 
 #include <stdlib.h>
-#include <string.h>
 #include <sys/stat.h>
 #include <unistd.h>
 

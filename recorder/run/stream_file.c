@@ -1,7 +1,6 @@
 #include "stream_file.h"
 
 #include "allocation.h"
-#include "files.h"
 #include "format.h"
 #include "line.h"
 #include "source_names.h"

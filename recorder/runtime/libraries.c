@@ -6,7 +6,7 @@
  * A library that is opened with RTLD_DEEPBIND, or in a namespace of its own, has the C library's own calls. To leave that
  * bit out would give it other symbols than it was made for. So its locks aren't seen, and that is noted.
  */
-#include "quick.h"
+#include "recorder.h"
 
 #include <string.h>
 

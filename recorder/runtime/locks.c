@@ -7,7 +7,7 @@
  * are chained by pieces of memory, so that a freed block finds the locks that were in it.
  */
 #include "label.h"
-#include "quick.h"
+#include "recorder.h"
 
 #include <malloc.h>
 #include <string.h>

@@ -57,7 +57,6 @@
 #include <sys/mman.h>
 #include <sys/types.h>
 #include <threads.h>
-#include <time.h>
 #include <unistd.h>
 
 int __register_atfork(void (*)(void), void (*)(void), void (*)(void), void *); /* what pthread_atfork calls */

@@ -4,7 +4,6 @@
 #ifndef RECORD_IGNORED_TYPES_H
 #define RECORD_IGNORED_TYPES_H
 
-#include <stdbool.h>
 #include <stddef.h>
 
 #include "map.h"
