@@ -105,7 +105,4 @@ void run_has_word(struct run *run, long speaker);
 void find_recordings(struct run *run);
 void forget_recordings(struct run *run);
 
-/* Whether something was asked for by that word of the settings. */
-bool is_asked(const char *word);
-
 #endif

@@ -317,7 +317,7 @@ static void tell_all(struct process *process)
     tell_held(process);
     look_for_premises(process);
     if (is_replayed(process))
-        judge(process);
+        tell_legality(process);
     if (is_replayed(process))
         learn_take(process);
     tell_missed(process);

@@ -7,6 +7,7 @@
 #include "libdw.h"
 #include "missed_calls.h"
 #include "resolve.h"
+#include "texts.h"
 
 static const char little_room[] = "a full disk, or a limit on the size of files";
 
@@ -56,11 +57,6 @@ void tell_status(struct run *run)
     }
     for (size_t i = 0; i < status->bares; i++)
         tell_bare(run, &status->bare[i]);
-}
-
-static int compare_texts(const void *one, const void *other)
-{
-    return strcmp(*(const char *const *)one, *(const char *const *)other);
 }
 
 void tell_blind(struct run *run)

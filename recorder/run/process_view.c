@@ -192,7 +192,7 @@ static char *read_written(const char *path, size_t *length)
     return bytes;
 }
 
-static void write_all(const char *path, const char *bytes, size_t length)
+static void write_file(const char *path, const char *bytes, size_t length)
 {
     FILE *file = fopen(path, "we");
     bool whole = file && fwrite(bytes, 1, length, file) == length;
@@ -205,7 +205,7 @@ static void copy_file(const char *path, const char *records)
     size_t length;
     char *bytes = read_written(path, &length), *to = say_text("%s/%s", records, file_base(path));
     version_check(path, bytes, length);
-    write_all(to, bytes, whole_lines(bytes, length));
+    write_file(to, bytes, whole_lines(bytes, length));
     free(bytes);
     free(to);
 }
@@ -221,7 +221,7 @@ static void copy_status(const char *folder, const char *records)
     if (file)
         fclose(file);
     if (length > 0)
-        write_all(to, bytes, (size_t)length);
+        write_file(to, bytes, (size_t)length);
     else if (!file_fill(to, file ? 0 : STATUS_ENOUGH))
         fail_for_room();
     free(bytes);
@@ -235,7 +235,7 @@ static char *copy_view(struct view *view, const char *work)
     char *records = say_text("%s/records", work), *started = say_text("%s/started", records);
     if (mkdir(records, 0700) != 0)
         fail_for_room();
-    write_all(started, "", 0);
+    write_file(started, "", 0);
     free(started);
     if (view->is_process)
         ask(view->file, view->files);

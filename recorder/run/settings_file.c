@@ -37,11 +37,6 @@ bool kept_write(const struct settings *settings, const char *work)
     return fclose(file) == 0 && whole;
 }
 
-static bool is_asked(const char *word)
-{
-    return word && *word;
-}
-
 /* The value of the line, if the line is that word's; it is the caller's. */
 static char *value_of(const char *line, const char *word)
 {
