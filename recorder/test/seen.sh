@@ -102,14 +102,14 @@ fi
 if wanted reread; then
     compile reread
     recorded_by "$record" -- ./reread writers
-    said 0 'a lock was read again by a thread that read it, and a writer that waits in between stops both: "lock" @ reread.c:15' &&
+    said 0 'a lock was read again by a thread that read it, and a writer that waits in between stops both: "lock" @ reread.c:23' &&
         last_is 'record: nothing to report but 1 error' &&
         grep -q '^record: not clean: reread: a thread read a lock again that it read' recorded.err
     tell reread "a lock that prefers writers" $?
     recorded_by "$record" --alarms no-errors --error-exitcode 7 -- ./reread writers
     said 0 '^record: not clean: ' && ! grep -q '^record: clean' recorded.err
     tell reread "where errors aren't told" $?
-    for kind in readers default; do
+    for kind in readers default written; do
         recorded_by "$record" -- ./reread $kind
         said 0 "^$clean\$" && last_is 'record: nothing to report'
         tell reread "$kind" $?
