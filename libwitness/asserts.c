@@ -4,10 +4,9 @@
  * itself says that it holds the lock, and no verifier is needed for that.
  */
 #include "judge.h"
-#include "judge_place.h"
+#include "lock_lines.h"
 #include "names.h"
 #include "report_action.h"
-#include "lock_lines.h"
 
 struct question {
     enum witness_kind kind;

@@ -6,10 +6,10 @@
  * circle.
  */
 #include "judge.h"
-#include "judge_place.h"
+#include "judge_verifier.h"
+#include "lock_lines.h"
 #include "names.h"
 #include "report_action.h"
-#include "lock_lines.h"
 
 #include <string.h>
 #include <unistd.h>
@@ -59,7 +59,7 @@ void deadlock_asked(const struct thread *thread, uint32_t place)
 /* The seats of a circle that the thread's own seat is in; 0 where it is in none. */
 static int64_t circle_of(const struct thread *thread, uint16_t seats[SEATS])
 {
-    struct wit_place *place = judged_place();
+    struct wit_place *place = judge_verifier();
     int64_t count = place ? wit_circle(place, seats, SEATS) : 0;
     for (int64_t i = 0; i < count; i++)
         if (seats[i] == thread->seat)
@@ -90,7 +90,7 @@ static void put_waits(struct lines *lines, struct wit_place *place, uint16_t sea
 static void keep_circle(const uint16_t *seats, int64_t count)
 {
     static char text[CIRCLE_ROOM];
-    struct wit_place *place = judged_place();
+    struct wit_place *place = judge_verifier();
     int64_t length = wit_circle_text(place, text, sizeof text);
     if (length < 0 || (size_t)length > sizeof text)
         return;

@@ -7,10 +7,10 @@
  */
 #include "judge.h"
 
-#include "judge_place.h"
+#include "judge_verifier.h"
+#include "lock_lines.h"
 #include "names.h"
 #include "report_action.h"
-#include "lock_lines.h"
 
 #include <string.h>
 
@@ -114,7 +114,7 @@ static bool is_judged(void)
     return state == JUDGES;
 }
 
-struct wit_place *judged_place(void)
+struct wit_place *judge_verifier(void)
 {
     return is_judged() ? &place : NULL;
 }

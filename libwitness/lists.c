@@ -7,7 +7,7 @@
  *
  * CLASS is mtx or rw. After a line may stand a comment, from # on. A line that isn't one of these is told and passed over.
  */
-#include "judge_place.h"
+#include "judge_verifier.h"
 #include "report_action.h"
 
 #include <fcntl.h>

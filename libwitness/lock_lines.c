@@ -5,7 +5,7 @@
  */
 #include "lock_lines.h"
 
-#include "judge_place.h"
+#include "judge_verifier.h"
 #include "names.h"
 
 #include <stdarg.h>

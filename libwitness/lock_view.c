@@ -1,8 +1,8 @@
 /* What a program asks to be shown (witness_show): which locks are held, as the verifier and the mutexes themselves say. */
-#include "judge_place.h"
+#include "judge_verifier.h"
 #include "libwitness.h"
-#include "names.h"
 #include "lock_lines.h"
+#include "names.h"
 
 #include <errno.h>
 #include <unistd.h>
@@ -36,7 +36,7 @@ static void put_orders(struct lines *lines, struct wit_place *place)
 
 static void collect(struct lines *lines)
 {
-    struct wit_place *place = judged_place();
+    struct wit_place *place = judge_verifier();
     put_holders(lines);
     if (!place)
         return;

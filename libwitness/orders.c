@@ -2,7 +2,7 @@
  * What a program says of orders and of watching, and asks to be shown. An order may be named before its locks are
  * known: it is defined when both have a number in the stream.
  */
-#include "judge_place.h"
+#include "judge_verifier.h"
 #include "libwitness.h"
 
 enum { WANTED_MOST = 1024, FIRST = 0, SECOND = 1 };
@@ -19,7 +19,7 @@ static uint32_t wanted_count;
  */
 static bool defines(const struct thread *thread, const struct wanted *order)
 {
-    struct wit_place *place = judged_place();
+    struct wit_place *place = judge_verifier();
     if (!place)
         return false;
     if (!order->number[FIRST] || !order->number[SECOND])
@@ -96,7 +96,7 @@ EXPORT int witness_watch(int level)
     if (!chain_opens(HERE))
         return 0;
     if (recorder_enters()) {
-        struct wit_place *place = judged_place();
+        struct wit_place *place = judge_verifier();
         if (place && seat_taken(&self)) {
             is_set = wit_set_watch(place, (uint16_t)self.seat, level) >= 0;
             seat_given_back(&self);

@@ -2,7 +2,7 @@
  * Reads the file that WITNESS_ORDERS names and says how much was in it: the reader of lists by itself. What it takes
  * from the rest of the library is here.
  */
-#include "../judge_place.h"
+#include "../judge_verifier.h"
 #include "../report_action.h"
 
 #include <stdarg.h>

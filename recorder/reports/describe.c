@@ -1,7 +1,6 @@
 #include "describe.h"
 
 #include <ctype.h>
-#include <string.h>
 
 #include "allocation.h"
 

@@ -33,13 +33,13 @@ char *document_text(const char *program, const char *word, const char *bytes, si
     return to ? ended(to, &text, document_write(to, program, word, bytes, length) == 0) : NULL;
 }
 
-char *document_report(const struct findings *findings, size_t *length)
+char *document_report(const struct run_reports *gathered, size_t *length)
 {
     char *report = NULL;
     FILE *to = open_memstream(&report, length);
     if (!to)
         return NULL;
-    json_write(to, findings);
+    json_write(to, gathered);
     return ended(to, &report, true);
 }
 

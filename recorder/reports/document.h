@@ -8,7 +8,7 @@
 #include <stddef.h>
 #include <stdio.h>
 
-#include "findings.h"
+#include "run_reports.h"
 
 /* Writes what `PROGRAM WORD` makes of the bytes. The answer is its status, as a shell says it: 0 where all was made. */
 int document_write(FILE *to, const char *program, const char *word, const char *bytes, size_t length);
@@ -17,7 +17,7 @@ int document_write(FILE *to, const char *program, const char *word, const char *
 char *document_text(const char *program, const char *word, const char *bytes, size_t length);
 
 /* The JSON report as a text of one's own; NULL where there is no memory for it. */
-char *document_report(const struct findings *findings, size_t *length);
+char *document_report(const struct run_reports *gathered, size_t *length);
 
 /* Whether the program knows that word. */
 bool document_is_known(const char *witness, const char *form);

@@ -5,7 +5,7 @@
 #ifndef RECORD_GRADES_H
 #define RECORD_GRADES_H
 
-#include "json_read.h"
+#include "json_reader.h"
 #include "report.h"
 
 /* Which grades are asked for. */

@@ -50,15 +50,15 @@ static char *draw_one(const char *file, size_t number, const char *text, size_t 
     return NULL;
 }
 
-char *graphs_draw(const char *file, const char *witness, const struct findings *findings, const char *report,
+char *graphs_draw(const char *file, const char *witness, const struct run_reports *gathered, const char *report,
     size_t length)
 {
     static const char end[] = "\n}\n";
     char *text = document_text(witness, "dot", report, length), *failed = text ? NULL : copy(file);
     const char *from = text, *after;
-    for (size_t i = 0; from && i < findings->count && (after = strstr(from, end)) != NULL; i++, from = after) {
+    for (size_t i = 0; from && i < gathered->count && (after = strstr(from, end)) != NULL; i++, from = after) {
         after += strlen(end);
-        char *name = findings->found[i].has_orders ? draw_one(file, i, from, (size_t)(after - from)) : NULL;
+        char *name = gathered->found[i].has_orders ? draw_one(file, i, from, (size_t)(after - from)) : NULL;
         if (failed)
             free(name);
         else

@@ -7,17 +7,17 @@
 
 #include <stddef.h>
 
-#include "findings.h"
+#include "run_reports.h"
 
 /* Refuses a name of a file in which no picture can be drawn here. */
 void graph_check(const char *file);
 
 /*
- * Draws those of the findings, whose JSON report this is, to FILE.svg, of further processes to FILE.1.svg and so on; or writes the
+ * Draws those of the run, whose JSON report this is, to FILE.svg, of further processes to FILE.1.svg and so on; or writes the
  * text for dot, FILE.dot. Where a process's orders aren't known there is no file. The first file in which that failed, as a text
  * of one's own; NULL where none did.
  */
-char *graphs_draw(const char *file, const char *witness, const struct findings *findings, const char *report,
+char *graphs_draw(const char *file, const char *witness, const struct run_reports *gathered, const char *report,
     size_t length);
 
 #endif

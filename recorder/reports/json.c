@@ -2,10 +2,10 @@
 
 #include <stdlib.h>
 
+#include "allocation.h"
 #include "describe.h"
 #include "json_place.h"
 #include "json_writer.h"
-#include "allocation.h"
 #include "sources.h"
 
 enum { VERSION = 1, TYPES_SHOWN = 64 };
@@ -129,9 +129,9 @@ static void write_lines(struct objects *to, const struct report *report)
     object_close(to, '[');
 }
 
-static void write_words(struct objects *to, const struct finding *finding)
+static void write_words(struct objects *to, const struct run_report *entry)
 {
-    const struct report *report = finding->report;
+    const struct report *report = entry->report;
     char *words = describe(report);
     object_text(to, "description", words);
     free(words);
@@ -142,7 +142,7 @@ static void write_words(struct objects *to, const struct finding *finding)
     write_lines(to, report);
     object_open(to, "advice", '[');
     for (size_t i = 0; i < ADVICES; i++) {
-        char *sentence = advice(report, &finding->alarm, i);
+        char *sentence = advice(report, &entry->alarm, i);
         if (sentence)
             object_text(to, NULL, sentence);
         free(sentence);
@@ -186,11 +186,11 @@ static void write_schedule(struct objects *to, const struct schedule *schedule)
 }
 
 /* What is known of the single locks of the types. */
-static void write_single(struct objects *to, const struct finding *finding)
+static void write_single(struct objects *to, const struct run_report *entry)
 {
     static const char *const grades[] =
         {[GRADE_UNKNOWN] = "unknown", [GRADE_TYPES] = "types", [GRADE_ONE_THREAD] = "thread", [GRADE_THREADS] = "threads"};
-    const struct alarm *alarm = &finding->alarm;
+    const struct alarm *alarm = &entry->alarm;
     if (alarm->grade == GRADE_NONE) {
         object_text(to, "single", NULL);
         return;
@@ -208,8 +208,8 @@ static void write_single(struct objects *to, const struct finding *finding)
         object_close(to, '{');
     }
     object_close(to, '[');
-    object_text(to, "text", finding->single);
-    write_schedule(to, finding->schedule);
+    object_text(to, "text", entry->single);
+    write_schedule(to, entry->schedule);
     object_close(to, '{');
 }
 
@@ -275,36 +275,36 @@ static void write_lasting(struct objects *to, const struct notes *notes, const c
     object_close(to, '[');
 }
 
-static void write_report(struct objects *to, const struct finding *finding)
+static void write_report(struct objects *to, const struct run_report *entry)
 {
-    const struct notes *notes = &finding->found->notes;
+    const struct notes *notes = &entry->found->notes;
     const char *type[TYPES_SHOWN];
-    size_t types = report_types(finding->report, type, TYPES_SHOWN);
+    size_t types = report_types(entry->report, type, TYPES_SHOWN);
     object_open(to, NULL, '{');
-    object_text(to, "kind", kinds[finding->report->kind]);
-    object_text(to, "fingerprint", finding->fingerprint);
-    object_text(to, "program", finding->found->program);
+    object_text(to, "kind", kinds[entry->report->kind]);
+    object_text(to, "fingerprint", entry->fingerprint);
+    object_text(to, "program", entry->found->program);
     object_open(to, "processes", '[');
-    for (size_t i = 0; i < finding->processes; i++)
-        object_number(to, NULL, finding->process[i]);
+    for (size_t i = 0; i < entry->processes; i++)
+        object_number(to, NULL, entry->process[i]);
     object_close(to, '[');
-    object_truth(to, "silenced", finding->is_ignored);
-    object_text(to, "silence", finding->report->ignore_line);
-    object_truth(to, "counts", finding->counts);
-    write_single(to, finding);
-    write_confirmed(to, finding->confirmed);
+    object_truth(to, "silenced", entry->is_ignored);
+    object_text(to, "silence", entry->report->ignore_line);
+    object_truth(to, "counts", entry->counts);
+    write_single(to, entry);
+    write_confirmed(to, entry->confirmed);
     object_open(to, "types", '[');
     for (size_t i = 0; i < types; i++)
         object_text(to, NULL, type[i]);
     object_close(to, '[');
     write_lasting(to, notes, type, types);
     write_variables(to, notes, type, types);
-    write_locks(to, finding->report);
-    write_steps(to, finding->report, notes);
-    write_waits(to, finding->report);
-    write_error(to, finding->report);
-    write_words(to, finding);
-    object_maybe(to, "picture", finding->picture);
+    write_locks(to, entry->report);
+    write_steps(to, entry->report, notes);
+    write_waits(to, entry->report);
+    write_error(to, entry->report);
+    write_words(to, entry);
+    object_maybe(to, "picture", entry->picture);
     object_close(to, '{');
 }
 
@@ -353,39 +353,39 @@ static void write_time(struct objects *to, time_t ended)
 }
 
 /* Of the whole run. */
-static void write_run(struct objects *to, const struct findings *findings)
+static void write_run(struct objects *to, const struct run_reports *gathered)
 {
     object_text(to, "format", "record-findings");
     object_number(to, "version", VERSION);
-    object_text(to, "command", findings->command ? findings->command : "record");
-    object_text(to, "record", findings->version);
-    object_text(to, "kit", findings->kit);
-    object_text(to, "program", findings->program);
-    object_text(to, "words", findings->words);
-    object_text(to, "directory", findings->directory);
-    object_text(to, "ignore", findings->ignore);
-    write_time(to, findings->ended);
-    object_truth(to, "failed", findings->has_failed);
-    object_text(to, "summary", findings->summary);
+    object_text(to, "command", gathered->command ? gathered->command : "record");
+    object_text(to, "record", gathered->version);
+    object_text(to, "kit", gathered->kit);
+    object_text(to, "program", gathered->program);
+    object_text(to, "words", gathered->words);
+    object_text(to, "directory", gathered->directory);
+    object_text(to, "ignore", gathered->ignore);
+    write_time(to, gathered->ended);
+    object_truth(to, "failed", gathered->has_failed);
+    object_text(to, "summary", gathered->summary);
     object_open(to, "told", '[');
-    for (size_t i = 0; i < findings->tolds; i++)
-        object_text(to, NULL, findings->told[i]);
+    for (size_t i = 0; i < gathered->tolds; i++)
+        object_text(to, NULL, gathered->told[i]);
     object_close(to, '[');
 }
 
-void json_write(FILE *file, const struct findings *findings)
+void json_write(FILE *file, const struct run_reports *gathered)
 {
     struct objects to = {.to = file};
     object_open(&to, NULL, '{');
-    write_run(&to, findings);
-    sources_write(&to, findings);
+    write_run(&to, gathered);
+    sources_write(&to, gathered);
     object_open(&to, "reports", '[');
-    for (size_t i = 0; i < findings->findings; i++)
-        write_report(&to, &findings->finding[i]);
+    for (size_t i = 0; i < gathered->reports; i++)
+        write_report(&to, &gathered->report[i]);
     object_close(&to, '[');
     object_open(&to, "processes", '[');
-    for (size_t i = 0; i < findings->count; i++)
-        write_process(&to, &findings->found[i]);
+    for (size_t i = 0; i < gathered->count; i++)
+        write_process(&to, &gathered->found[i]);
     object_close(&to, '[');
     object_close(&to, '{');
 }

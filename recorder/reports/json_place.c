@@ -5,8 +5,8 @@
 #include <string.h>
 
 #include "allocation.h"
-#include "place.h"
 #include "place_words.h"
+#include "site_parts.h"
 
 /* As a trace has it; null of none. */
 void json_trace_site(struct objects *to, const char *name, const char *site)
@@ -28,10 +28,10 @@ static void write_name(struct objects *to, const char *site)
 /* The object of a place without a line, and where in it that is: as far as they are known. */
 static void write_object(struct objects *to, const char *site)
 {
-    struct place place;
+    struct site_parts parts;
     struct code_words code;
-    bool is_code = code_words_read(&code, site), is_place = place_read(&place, site) && place.line == 0;
-    char *object = is_place ? copy_bytes(site, is_code ? code.object_length : place.length) : NULL;
+    bool is_code = code_words_read(&code, site), is_place = site_parts_read(&parts, site) && parts.line == 0;
+    char *object = is_place ? copy_bytes(site, is_code ? code.object_length : parts.length) : NULL;
     object_maybe(to, "object", object);
     if (is_code)
         object_number(to, "offset", code.offset > LLONG_MAX ? LLONG_MAX : (long long)code.offset);
@@ -41,12 +41,12 @@ static void write_object(struct objects *to, const char *site)
 /* The place with its file and its line, each null where it isn't known. */
 void json_site(struct objects *to, const char *site)
 {
-    struct place place;
-    bool is_place = site && place_read(&place, site);
-    char *file = is_place && place.line > 0 ? copy_bytes(place.file, place.length) : NULL;
+    struct site_parts parts;
+    bool is_place = site && site_parts_read(&parts, site);
+    char *file = is_place && parts.line > 0 ? copy_bytes(parts.file, parts.length) : NULL;
     json_trace_site(to, "site", site);
     object_text(to, "file", file);
-    object_known(to, "line", file ? place.line : 0);
+    object_known(to, "line", file ? parts.line : 0);
     free(file);
     if (site) {
         write_name(to, site);

@@ -2,9 +2,9 @@
 #include <string.h>
 #include <unistd.h>
 
+#include "allocation.h"
 #include "confirm.h"
 #include "learn.h"
-#include "allocation.h"
 #include "survivors.h"
 #include "unseen_locks.h"
 #include "whole_run.h"

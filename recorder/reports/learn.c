@@ -6,12 +6,12 @@
 #include <string.h>
 #include <unistd.h>
 
-#include "files.h"
-#include "findings_run.h"
 #include "allocation.h"
+#include "files.h"
 #include "orders_file.h"
 #include "orders_verdict.h"
 #include "output_files.h"
+#include "report_files.h"
 #include "report_text.h"
 #include "usage.h"
 
@@ -20,7 +20,7 @@ struct ending_run {
     struct run *run;
     const char *name; /* the file as it was named */
     char *path;
-    struct learnt learnt;
+    struct run_orders orders;
     struct judgement judgement;
     struct found *found; /* what is reported, for the files that are written of it; NULL where none is wanted */
     size_t added;        /* new orders that are against none */
@@ -55,26 +55,26 @@ static bool is_writable(const char *path)
 
 void learn_check(const struct settings *settings)
 {
-    struct learnt learnt = {0};
+    struct run_orders orders = {0};
     const char *file = is_asked(settings->learn) ? settings->learn : settings->known;
-    char *path = learnt_path(file), *why = NULL;
+    char *path = orders_file_path(file), *why = NULL;
     bool is_written_to = is_asked(settings->learn) && written_is_special(path);
     if (is_written_to)
         written_check(path);
     else if (is_asked(settings->learn) && !is_writable(path))
         refuse_target("%s can't be written: %s", file, strerror(errno));
     if (!is_written_to && (!is_asked(settings->learn) || is_there(path)))
-        why = learnt_read(&learnt, settings->witness, (char *[]){path, NULL}, NULL);
-    if (why && learnt.has_failed)
+        why = run_orders_read(&orders, settings->witness, (char *[]){path, NULL}, NULL);
+    if (why && orders.has_failed)
         fail("%s", why);
     if (why)
         refuse_target("%s", why);
-    learnt_end(&learnt);
+    run_orders_end(&orders);
     free(path);
 }
 
 /* For the files that are written of the run's reports. */
-static void take_finding(struct ending_run *ending, size_t number)
+static void take_report(struct ending_run *ending, size_t number)
 {
     struct report *report = &ending->judgement.reports.report[number];
     if (!ending->found)
@@ -87,7 +87,7 @@ static void take_finding(struct ending_run *ending, size_t number)
 static void tell_report_of(struct ending_run *ending, size_t number)
 {
     struct run *run = ending->run;
-    const struct learnt_order *order = &ending->learnt.order[ending->judgement.closing[number]];
+    const struct run_order *order = &ending->orders.order[ending->judgement.closing[number]];
     char *text = NULL;
     size_t length = 0;
     if (!order->is_met) {
@@ -99,12 +99,12 @@ static void tell_report_of(struct ending_run *ending, size_t number)
     FILE *to = order->is_told ? NULL : open_memstream(&text, &length);
     if (!to)
         return;
-    report_write(to, &ending->judgement.reports.report[number], false, run->settings.suppressions);
+    report_write(to, &ending->judgement.reports.report[number], false, run->settings.ignore_lines);
     fclose(to);
     run->reports++;
     tell_report(&run->output, text, length);
     free(text);
-    take_finding(ending, number);
+    take_report(ending, number);
 }
 
 /* They are as of a process of the program, which has no trace of its own. */
@@ -112,8 +112,8 @@ static void tell_reports_of(struct ending_run *ending)
 {
     struct run *run = ending->run;
     struct judgement *judgement = &ending->judgement;
-    if (judgement->reports.count > 0 && findings_are_wanted(&run->settings))
-        ending->found = findings_add(&run->findings, run->settings.program, run->process);
+    if (judgement->reports.count > 0 && report_files_are_wanted(&run->settings))
+        ending->found = run_reports_add(&run->gathered, run->settings.program, run->process);
     for (size_t i = 0; i < judgement->reports.count; i++)
         tell_report_of(ending, i);
     if (!ending->found)
@@ -126,8 +126,8 @@ static void tell_reports_of(struct ending_run *ending)
 static void tell_new(struct ending_run *ending)
 {
     struct run *run = ending->run;
-    for (size_t i = 0; i < ending->learnt.orders; i++) {
-        const struct learnt_order *order = &ending->learnt.order[i];
+    for (size_t i = 0; i < ending->orders.count; i++) {
+        const struct run_order *order = &ending->orders.order[i];
         ending->added += order->is_new && !order->is_against;
         if (!order->is_new || (!order->is_against && is_asked(run->settings.learn)))
             continue;
@@ -170,8 +170,8 @@ static void judge_and_tell(struct ending_run *ending)
 {
     struct run *run = ending->run;
     if (is_asked(run->settings.ignore))
-        learnt_ignore(&ending->learnt, run->settings.ignore);
-    learnt_judge(&ending->learnt, run->settings.witness, &ending->judgement);
+        run_orders_ignore(&ending->orders, run->settings.ignore);
+    run_orders_judge(&ending->orders, run->settings.witness, &ending->judgement);
     if (ending->judgement.failed) {
         tell_failure(ending, ending->judgement.failed);
         return;
@@ -179,7 +179,7 @@ static void judge_and_tell(struct ending_run *ending)
     tell_reports_of(ending);
     tell_new(ending);
     run->has_new = ending->added > 0;
-    char *why = is_asked(run->settings.learn) ? learnt_write(&ending->learnt, ending->path) : NULL;
+    char *why = is_asked(run->settings.learn) ? orders_file_write(&ending->orders, ending->path) : NULL;
     if (why) {
         run->unknown = true;
         say(&run->output, "%s: nothing is learnt", why);
@@ -196,16 +196,17 @@ void learn_tell(struct run *run)
         return;
     bool is_learnt = is_asked(run->settings.learn);
     struct ending_run ending = {.run = run, .name = is_learnt ? run->settings.learn : run->settings.known};
-    ending.path = learnt_path(ending.name);
+    ending.path = orders_file_path(ending.name);
     int lock = -1;
-    if (is_learnt && !learnt_lock(ending.path, &lock)) {
+    if (is_learnt && !orders_file_lock(ending.path, &lock)) {
         say(&run->output, "%s.lock can't be written: %s: nothing is learnt", ending.path, strerror(errno));
         run->unknown = true;
     } else {
         /* Other runs may have written to it since this one began. */
         bool has_known = !is_learnt || (is_there(ending.path) && !written_is_special(ending.path));
         char *files[] = {has_known ? ending.path : NULL, NULL};
-        char *why = learnt_read(&ending.learnt, run->settings.witness, files, run->learning ? &run->learning->met : NULL);
+        char *why =
+            run_orders_read(&ending.orders, run->settings.witness, files, run->learning ? &run->learning->met : NULL);
         if (why)
             tell_failure(&ending, why);
         else
@@ -215,7 +216,7 @@ void learn_tell(struct run *run)
     if (lock >= 0)
         close(lock);
     judgement_end(&ending.judgement);
-    learnt_end(&ending.learnt);
+    run_orders_end(&ending.orders);
     free(ending.path);
 }
 
@@ -223,7 +224,7 @@ void learn_end(struct run *run)
 {
     if (!run->learning)
         return;
-    learnt_end(&run->learning->met);
+    run_orders_end(&run->learning->met);
     map_end(&run->learning->nameless);
     free(run->learning);
 }

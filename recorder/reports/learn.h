@@ -9,7 +9,7 @@
 
 /* Of one run. A new struct is all zeroes. */
 struct learning {
-    struct learnt met;        /* by all processes */
+    struct run_orders met;    /* by all processes */
     struct map nameless;      /* types without names that last, which are in orders */
     unsigned long long_names; /* orders whose names are longer than a line may be */
 };

@@ -74,13 +74,13 @@ static bool is_allowed(const struct taking *taking, unsigned held, unsigned aske
 }
 
 /* The order as a file has it; without its origin where there is no room for that. NULL where no file can have it. */
-static struct learnt_order *add_line(const struct taking *taking, const char *key, const char *asked, const char *held)
+static struct run_order *add_line(const struct taking *taking, const char *key, const char *asked, const char *held)
 {
-    struct learnt *met = &taking->learning->met;
+    struct run_orders *met = &taking->learning->met;
     char *line = say_text("%s\t# %s while %s, %s", key, asked, held, taking->run);
-    struct learnt_order *order = learnt_add(met, line);
+    struct run_order *order = run_orders_add(met, line);
     free(line);
-    return order ? order : learnt_add(met, key);
+    return order ? order : run_orders_add(met, key);
 }
 
 static void add_order(struct taking *taking, const char *key, size_t held_at, size_t asked_at)
@@ -88,10 +88,10 @@ static void add_order(struct taking *taking, const char *key, size_t held_at, si
     struct learning *learning = taking->learning;
     const struct notes *notes = &taking->process->notes;
     char *asked = order_place(notes, asked_at, false), *held = order_place(notes, held_at, false);
-    struct learnt_order *order = add_line(taking, key, asked, held);
+    struct run_order *order = add_line(taking, key, asked, held);
     if (order) {
         struct here asked_here = here_of(notes, asked_at), held_here = here_of(notes, held_at);
-        learnt_tell_here(&learning->met, order, asked_here, held_here);
+        run_orders_note_here(&learning->met, order, asked_here, held_here);
         here_end(&asked_here);
         here_end(&held_here);
     } else {
@@ -125,7 +125,7 @@ static void take_pair(struct taking *taking, const struct lock_pair *pair)
     note_nameless(taking, pair->held);
     note_nameless(taking, pair->asked);
     char *key = key_of(taking->type[pair->held - 1], taking->type[pair->asked - 1]);
-    if (key && !learnt_find(&taking->learning->met, key))
+    if (key && !run_orders_find(&taking->learning->met, key))
         add_order(taking, key, pair->held_at, pair->asked_at);
     free(key);
 }
@@ -150,7 +150,7 @@ static void note_reports(struct taking *taking)
             continue;
         char *key = key_of(type_called(taking, report->line[report->first].type),
             type_called(taking, report->line[report->last].type));
-        struct learnt_order *order = key ? learnt_find(&taking->learning->met, key) : NULL;
+        struct run_order *order = key ? run_orders_find(&taking->learning->met, key) : NULL;
         if (order)
             order->is_told = true;
         free(key);

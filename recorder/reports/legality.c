@@ -141,7 +141,7 @@ static void tell_verdict(struct process *process, const char *trace)
     free(verdict);
 }
 
-void judge(struct process *process)
+void tell_legality(struct process *process)
 {
     struct run *run = process->run;
     if (!run->settings.judge)

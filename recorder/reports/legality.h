@@ -7,6 +7,6 @@
 #include "show_run.h"
 
 /* Tells it, where that was asked for. */
-void judge(struct process *process);
+void tell_legality(struct process *process);
 
 #endif

@@ -49,7 +49,7 @@ enum resolved going_reads(struct live_verdict *going, struct resolver *resolver,
 }
 
 /* Where the line is kept; NULL where it tells of a moment, or isn't wanted. */
-static struct text *place_of(struct live_verdict *going, const char *line, bool wants_orders)
+static struct text *kept_in(struct live_verdict *going, const char *line, bool wants_orders)
 {
     if (IS_FINDING(line, "report") || IS_FINDING(line, "bad"))
         return &going->kept;
@@ -61,7 +61,7 @@ static void keep(struct live_verdict *going, size_t length, bool wants_orders)
 {
     const char *at = going->verifier.told, *end = at + length, *after;
     for (; at < end && (after = memchr(at, '\n', (size_t)(end - at))) != NULL; at = after + 1) {
-        struct text *to = place_of(going, at, wants_orders);
+        struct text *to = kept_in(going, at, wants_orders);
         if (to)
             text_add(to, at, (size_t)(after + 1 - at));
     }

@@ -5,27 +5,27 @@
 #include <string.h>
 
 #include "allocation.h"
-#include "place.h"
-#include "place_words.h"
+#include "code_words.h"
+#include "site_parts.h"
 
 /* `FUNCTION (FILE)`, or what is known of it; with the line in the file where that is wanted. */
 static void put_place(FILE *to, const struct notes *notes, size_t number, bool with_line)
 {
-    struct place place;
+    struct site_parts parts;
     const struct frames *frames = notes_frames(notes, number);
     const char *function = frames && frames->count > 0 ? frames->frame[0].function : NULL;
     const char *site = notes_site(notes, number);
-    bool is_line = place_read(&place, site) && place.line > 0;
+    bool is_line = site_parts_read(&parts, site) && parts.line > 0;
     struct code_words code = {0};
     bool has_function = code_words_read(&code, site) && code.function_length > 0;
-    int file = is_line ? (int)place.length : (int)strcspn(site, "+(:");
+    int file = is_line ? (int)parts.length : (int)strcspn(site, "+(:");
     if (function)
         fprintf(to, "%s (", function);
     else if (has_function)
         fprintf(to, "%.*s (", (int)code.function_length, code.function);
     fprintf(to, "%.*s", file, site);
     if (is_line && with_line)
-        fprintf(to, ":%ld", place.line);
+        fprintf(to, ":%ld", parts.line);
     if (function || has_function)
         putc(')', to);
 }

@@ -18,7 +18,7 @@ static size_t spot(struct notes *notes, const char *place, const char *site)
 }
 
 /* The runs that met the order, by the one of which its origin tells. */
-static char *runs_of(const struct learnt_order *order, const char *run)
+static char *runs_of(const struct run_order *order, const char *run)
 {
     unsigned long more = order->runs > 1 ? order->runs - 1 : 0;
     if (*run && more > 0)
@@ -29,7 +29,7 @@ static char *runs_of(const struct learnt_order *order, const char *run)
 }
 
 /* Where the order's two types were asked for, and in which run, as texts of one's own. */
-static void places_of(const struct learnt_order *order, char **held, char **asked)
+static void places_of(const struct run_order *order, char **held, char **asked)
 {
     const char *whole = order->origin, *middle = strstr(whole, " while "), *run = middle ? strrchr(middle, ',') : NULL;
     if (!run || run[1] != ' ')
@@ -52,13 +52,13 @@ static void places_of(const struct learnt_order *order, char **held, char **aske
 }
 
 /* The only lock of the type. */
-static void add_lock(struct reports *reports, const struct learnt_type *type, size_t spot)
+static void add_lock(struct reports *reports, const struct order_type *type, size_t spot)
 {
     const struct lock_name lock = {.name = type->name, .type = type->name, .class = type->class};
     reports_add_lock(reports, &lock, spot);
 }
 
-static void add_locks(struct reports *reports, struct notes *notes, const struct learnt_order *order)
+static void add_locks(struct reports *reports, struct notes *notes, const struct run_order *order)
 {
     char *held, *asked;
     places_of(order, &held, &asked);
@@ -68,7 +68,7 @@ static void add_locks(struct reports *reports, struct notes *notes, const struct
     free(asked);
 }
 
-static void add_step(struct reports *reports, struct notes *notes, const struct learnt_order *order)
+static void add_step(struct reports *reports, struct notes *notes, const struct run_order *order)
 {
     char *held, *asked;
     places_of(order, &held, &asked);
@@ -77,15 +77,15 @@ static void add_step(struct reports *reports, struct notes *notes, const struct 
     free(asked);
 }
 
-void order_report(struct reports *reports, struct notes *notes, const struct learnt *learnt, size_t order,
+void order_report(struct reports *reports, struct notes *notes, const struct run_orders *orders, size_t order,
     const size_t *way, size_t count)
 {
     reports->notes = notes;
     notes->has_callers = true;
     struct report *report = reports_add(reports, REPORT_REVERSAL, "lock order reversal:");
-    add_locks(reports, notes, &learnt->order[order]);
+    add_locks(reports, notes, &orders->order[order]);
     reports_add_words(reports, "established order:");
     for (size_t i = 0; i < count; i++)
-        add_step(reports, notes, &learnt->order[way[i]]);
+        add_step(reports, notes, &orders->order[way[i]]);
     report_names_ignore_line(report, notes);
 }

@@ -8,7 +8,7 @@
 #include "run_orders.h"
 
 /* Adds a report of the order, and of those by which the others lead from its second type back to its first. */
-void order_report(struct reports *reports, struct notes *notes, const struct learnt *learnt, size_t order,
+void order_report(struct reports *reports, struct notes *notes, const struct run_orders *orders, size_t order,
     const size_t *way, size_t count);
 
 #endif

@@ -7,8 +7,9 @@
 #include <string.h>
 
 #include "allocation.h"
-#include "orders_asked.h"
+#include "files.h"
 #include "orders_file.h"
+#include "orders_question.h"
 #include "orders_verdict.h"
 #include "output_files.h"
 #include "prepare.h"
@@ -42,7 +43,7 @@ static const char text[] =
 struct wanted {
     const char *ignore, *to;
     struct drawing drawing;
-    bool suppressions;
+    bool ignore_lines;
 };
 
 /* The word after the option, which goes on to the next one. */
@@ -76,7 +77,7 @@ static char **read_options(struct wanted *wanted, char **words, bool is_judge)
         else if (is_judge && strcmp(*words, "--html") == 0)
             wanted->drawing.html = file_after(&words);
         else if (is_judge && strcmp(*words, "--gen-suppressions") == 0)
-            wanted->suppressions = true;
+            wanted->ignore_lines = true;
         else
             refuse("there is no option %s here", *words);
     }
@@ -92,12 +93,12 @@ static void end_for(const char *why, bool has_failed, const char *done)
         refuse_target("%s", why);
 }
 
-static void read_files(struct learnt *learnt, const char *witness, char **files, const char *done)
+static void read_files(struct run_orders *orders, const char *witness, char **files, const char *done)
 {
     if (!*files)
         refuse("no file is named");
-    const char *why = learnt_read(learnt, witness, files, NULL);
-    end_for(why, learnt->has_failed, done);
+    const char *why = run_orders_read(orders, witness, files, NULL);
+    end_for(why, orders->has_failed, done);
 }
 
 /* What was written to standard output is there, or it is told that it isn't. */
@@ -111,37 +112,37 @@ static int status_of_output(int status)
 
 static int merge(const char *witness, char **words)
 {
-    struct learnt learnt = {0};
+    struct run_orders orders = {0};
     struct wanted wanted;
     char **files = read_options(&wanted, words, false), *why = NULL;
-    char *path = wanted.to ? learnt_path(wanted.to) : NULL;
+    char *path = wanted.to ? orders_file_path(wanted.to) : NULL;
     int lock = -1;
-    if (path && !learnt_lock(path, &lock))
+    if (path && !orders_file_lock(path, &lock))
         fail("%s.lock can't be written: %s", path, strerror(errno));
-    read_files(&learnt, witness, files, "merged");
+    read_files(&orders, witness, files, "merged");
     if (path)
-        why = learnt_write(&learnt, path);
+        why = orders_file_write(&orders, path);
     else
-        learnt_print(stdout, &learnt);
+        orders_file_print(stdout, &orders);
     if (why)
         fail("%s", why);
     free(path);
-    learnt_end(&learnt);
+    run_orders_end(&orders);
     return status_of_output(0);
 }
 
-static size_t count_ignored(const struct learnt *learnt)
+static size_t count_ignored(const struct run_orders *orders)
 {
     size_t ignored = 0;
-    for (size_t i = 0; i < learnt->orders; i++)
-        ignored += learnt->order[i].is_ignored;
+    for (size_t i = 0; i < orders->count; i++)
+        ignored += orders->order[i].is_ignored;
     return ignored;
 }
 
 /* What is known of all orders, as a text of one's own. Of those that are ignored nothing is. */
-static char *verdict_of(const struct learnt *learnt, const struct judgement *judgement)
+static char *verdict_of(const struct run_orders *orders, const struct judgement *judgement)
 {
-    const char *ignored = count_ignored(learnt) > 0 ? " and the ignored ones" : "";
+    const char *ignored = count_ignored(orders) > 0 ? " and the ignored ones" : "";
     const char *alone = judgement->against == 1 ? "it" : "these";
     if (judgement->against > 0)
         return say_text("%zu order%s against others, and no circle without %s%s", judgement->against,
@@ -153,26 +154,26 @@ static char *verdict_of(const struct learnt *learnt, const struct judgement *jud
 }
 
 /* The last line, without its head. */
-static char *summary_of(const struct learnt *learnt, const struct judgement *judgement)
+static char *summary_of(const struct run_orders *orders, const struct judgement *judgement)
 {
-    char *verdict = verdict_of(learnt, judgement);
-    char *orders = say_count(learnt->orders, "order", "s"), *types = say_count(learnt->types.count, "type", "s");
-    char *runs = say_count(learnt->runs, "run", "s");
-    char *summary = say_text("%s: %s, %s, %s", verdict, orders, types, runs);
+    char *verdict = verdict_of(orders, judgement);
+    char *count = say_count(orders->count, "order", "s"), *types = say_count(orders->types.count, "type", "s");
+    char *runs = say_count(orders->runs, "run", "s");
+    char *summary = say_text("%s: %s, %s, %s", verdict, count, types, runs);
     free(verdict);
-    free(orders);
+    free(count);
     free(types);
     free(runs);
     return summary;
 }
 
 /* The reports and the last line. The status. */
-static int tell(const struct learnt *learnt, const struct judgement *judgement, bool suppressions, const char *summary)
+static int tell(const struct run_orders *orders, const struct judgement *judgement, bool ignore_lines, const char *summary)
 {
     int status = judgement->against > 0 ? FOUND : 0;
     for (size_t i = 0; i < judgement->reports.count; i++)
-        report_write(stdout, &judgement->reports.report[i], false, suppressions);
-    size_t ignored = count_ignored(learnt);
+        report_write(stdout, &judgement->reports.report[i], false, ignore_lines);
+    size_t ignored = count_ignored(orders);
     if (ignored > 0)
         printf("orders: %zu of them %s ignored\n", ignored, ignored == 1 ? "is" : "are");
     printf("orders: %s\n", summary);
@@ -181,70 +182,71 @@ static int tell(const struct learnt *learnt, const struct judgement *judgement, 
 
 static int judge(const char *witness, char **words)
 {
-    struct learnt learnt = {0};
+    struct run_orders orders = {0};
     struct wanted wanted;
     struct judgement judgement;
     char **files = read_options(&wanted, words, true);
     wanted.drawing.witness = witness;
     drawing_check(&wanted.drawing);
-    read_files(&learnt, witness, files, "judged");
+    read_files(&orders, witness, files, "judged");
     if (wanted.ignore) {
         prepare_files(&(struct settings){.ignore = wanted.ignore});
-        learnt_ignore(&learnt, wanted.ignore);
+        run_orders_ignore(&orders, wanted.ignore);
     }
-    learnt_judge(&learnt, witness, &judgement);
+    run_orders_judge(&orders, witness, &judgement);
     if (judgement.failed)
         fail("%s: nothing is judged", judgement.failed);
-    char *summary = summary_of(&learnt, &judgement);
-    int status = tell(&learnt, &judgement, wanted.suppressions, summary);
-    if (!draw_learnt(&wanted.drawing, &learnt, &judgement, summary))
+    char *summary = summary_of(&orders, &judgement);
+    int status = tell(&orders, &judgement, wanted.ignore_lines, summary);
+    if (!run_orders_draw(&wanted.drawing, &orders, &judgement, summary))
         status = FAILED;
     free(summary);
     judgement_end(&judgement);
-    learnt_end(&learnt);
+    run_orders_end(&orders);
     return status_of_output(status);
 }
 
 /* What the program makes of the files. */
-static void ask_of(struct orders_asked *asked, const char *witness, const char *word, const char *number, char **files)
+static void ask_of(struct orders_question *question, const char *witness, const char *word, const char *number,
+    char **files)
 {
     if (!*files)
         refuse("no file is named");
-    asked_begin(asked, witness, word, number);
+    question_begin(question, witness, word, number);
     for (; *files; files++)
-        asked_file(asked, *files);
-    const char *why = asked_answer(asked);
-    end_for(why, asked->has_failed, "told");
+        question_file(question, *files);
+    const char *why = question_answer(question);
+    end_for(why, question->has_failed, "told");
 }
 
 static int tell_text(const char *witness, char **words)
 {
-    struct orders_asked asked;
+    struct orders_question question;
     struct wanted wanted;
-    ask_of(&asked, witness, "text", NULL, read_options(&wanted, words, false));
-    fwrite(asked.told, 1, asked.length, stdout);
-    asked_end(&asked);
+    ask_of(&question, witness, "text", NULL, read_options(&wanted, words, false));
+    fwrite(question.told, 1, question.length, stdout);
+    question_end(&question);
     return status_of_output(0);
 }
 
 /* Its last line counts, and isn't for people. */
 static int tell_unseen(const char *witness, char **words)
 {
-    struct orders_asked asked;
+    struct orders_question question;
     unsigned long unseen, orders, unknown;
     if (!*words || **words < '1' || **words > '9' || (*words)[strspn(*words, "0123456789")])
         refuse("unseen takes a number of runs first, not %s", *words ? *words : "nothing");
-    ask_of(&asked, witness, "unseen", *words, words + 1);
-    char *last = asked.length > 0 ? memrchr(asked.told, '\n', asked.length - 1) : NULL;
-    last = last ? last + 1 : asked.told;
+    ask_of(&question, witness, "unseen", *words, words + 1);
+    char *last = question.length > 0 ? memrchr(question.told, '\n', question.length - 1) : NULL;
+    last = last ? last + 1 : question.told;
     if (sscanf(last, "unseen: %lu of %lu orders, unknown: %lu", &unseen, &orders, &unknown) != 3)
         fail("%s answers something else than the orders", witness);
-    fwrite(asked.told, 1, (size_t)(last - asked.told), stdout);
+    fwrite(question.told, 1, (size_t)(last - question.told), stdout);
     if (unknown > 0)
         fprintf(stderr,
             "orders: of %lu orders the runs weren't counted one by one, so it isn't known when they were met last\n",
             unknown);
-    asked_end(&asked);
+    question_end(&question);
     return status_of_output(unseen > 0 ? FOUND : 0);
 }
 

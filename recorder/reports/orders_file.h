@@ -15,25 +15,25 @@
  * are new where no file has them. They come by their keys in the C locale. Why they can't be read, as a text of one's
  * own; NULL where they were.
  */
-char *learnt_read(struct learnt *learnt, const char *witness, char *const *files, const struct learnt *met);
+char *run_orders_read(struct run_orders *orders, const char *witness, char *const *files, const struct run_orders *met);
 
 /* The file that is meant where the path is a link; else the path: a text of one's own. */
-char *learnt_path(const char *path);
+char *orders_file_path(const char *path);
 
 /*
  * Waits for its turn to write the file. False where it can't have one: errno says why. The lock, which close() gives
  * back, is below 0 where there is none, as of what isn't a regular file.
  */
-bool learnt_lock(const char *path, int *lock);
+bool orders_file_lock(const char *path, int *lock);
 
 /*
  * Writes the file and its counts in place of those that are there, but for new orders that are against others. Who
  * reads it meanwhile has the old one or the new one, whole. Why it can't be written, as a text of one's own; NULL
  * where it was. What isn't a regular file is written to, and has no counts.
  */
-char *learnt_write(const struct learnt *learnt, const char *path);
+char *orders_file_write(const struct run_orders *orders, const char *path);
 
 /* Writes the orders' lines. */
-void learnt_print(FILE *to, const struct learnt *learnt);
+void orders_file_print(FILE *to, const struct run_orders *orders);
 
 #endif

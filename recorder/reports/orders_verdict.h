@@ -1,5 +1,5 @@
 /*
- * Judges learnt orders, as many as there are: `witness orders judge` does, which is proved (docs/PROOFS.md).
+ * Judges orders of many runs, as many as there are: `witness orders judge` does, which is proved (docs/PROOFS.md).
  */
 #ifndef RECORD_ORDERS_VERDICT_H
 #define RECORD_ORDERS_VERDICT_H
@@ -19,12 +19,7 @@ struct judgement {
  * Known orders are judged before new ones, and those of more runs before others: so the rare one comes to be against
  * the others. Ends by judgement_end.
  */
-void learnt_judge(struct learnt *learnt, const char *witness, struct judgement *judgement);
+void run_orders_judge(struct run_orders *orders, const char *witness, struct judgement *judgement);
 void judgement_end(struct judgement *judgement);
-
-/*
- * The program of that name: the one that the variable names, else the one of the repository or of the installed tree.
- */
-const char *program_called(const char *here, const char *variable, const char *name);
 
 #endif

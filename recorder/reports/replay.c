@@ -5,11 +5,11 @@
 
 #include "allocation.h"
 #include "finding_lines.h"
-#include "findings_run.h"
 #include "follow.h"
 #include "live_verdict.h"
 #include "output_files.h"
 #include "replay_answers.h"
+#include "report_files.h"
 
 enum { BUFFER_BYTES = 1 << 16, BAD_LINES = 3, PATIENCE = 30000, BRIEF_PATIENCE = 2000 };
 
@@ -20,7 +20,7 @@ static ssize_t feed(void *cookie, const char *bytes, size_t length)
 }
 
 /* Why nothing is told of the report. */
-static enum ignored_cause cause_of(const struct report *report, const struct ignored *ignored)
+static enum ignored_cause cause_of(const struct report *report, const struct ignored_types *ignored)
 {
     if ((report->kind != REPORT_REVERSAL && report->kind != REPORT_DUPLICATE) || report->first == 0)
         return NOT_IGNORED;
@@ -53,7 +53,7 @@ static bool is_trial(const struct settings *settings, const char *witness)
 /* The grades that are asked for, in the end or while others wait. */
 static struct grades_wanted grades_of(const struct process *process, const struct notes *notes, bool in_the_end)
 {
-    return (struct grades_wanted){notes, findings_are_wanted(&process->run->settings),
+    return (struct grades_wanted){notes, report_files_are_wanted(&process->run->settings),
         in_the_end ? PATIENCE : BRIEF_PATIENCE};
 }
 
@@ -121,7 +121,7 @@ static char *ask_going(struct process *process, struct live_verdict *going, size
     bool ends = !process->is_followed || process->is_last_look;
     char *told = NULL;
     if (reads_on(process, going)) {
-        bool wants_orders = findings_are_wanted(&process->run->settings);
+        bool wants_orders = report_files_are_wanted(&process->run->settings);
         struct grades_wanted wanted = grades_of(process, resolving_notes(going->resolving), ends);
         told = ends ? going_ends(going, wanted, length) : going_looks(going, wanted, wants_orders, length);
     }
@@ -155,7 +155,7 @@ void replay(struct process *process)
     struct live_verdict *going = follow_verdict(process->run, process);
     char *told = going ? ask_going(process, going, &length) : ask(process, process->run->settings.witness, &length);
     process->reports.notes = &process->notes;
-    process->state.lacks_orders = process->is_followed || !findings_are_wanted(&process->run->settings);
+    process->state.lacks_orders = process->is_followed || !report_files_are_wanted(&process->run->settings);
     if (told)
         finding_lines_read(&process->reports, &process->state, told, length);
     ask_grader(process);

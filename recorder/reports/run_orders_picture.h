@@ -1,5 +1,5 @@
 /*
- * Learnt orders as a picture, and as a page.
+ * Orders of many runs as a picture, and as a page.
  */
 #ifndef RECORD_RUN_ORDERS_PICTURE_H
 #define RECORD_RUN_ORDERS_PICTURE_H
@@ -18,7 +18,7 @@ struct drawing {
 void drawing_check(const struct drawing *drawing);
 
 /* Writes them. Where one can't be written that is told, and the answer is false. The reports are taken over. */
-bool draw_learnt(const struct drawing *drawing, const struct learnt *learnt, struct judgement *judgement,
+bool run_orders_draw(const struct drawing *drawing, const struct run_orders *orders, struct judgement *judgement,
     const char *summary);
 
 #endif

@@ -4,10 +4,10 @@
 #include <stdlib.h>
 #include <string.h>
 
-#include "errand_trace.h"
 #include "allocation.h"
+#include "errand_trace.h"
+#include "forecast_answer.h"
 #include "schedule.h"
-#include "schedule_read.h"
 #include "verdict.h"
 
 /* Circles of more requests the program leaves out. */

@@ -10,14 +10,14 @@
 #include <sys/resource.h>
 #include <unistd.h>
 
+#include "allocation.h"
 #include "colour.h"
 #include "confirm.h"
 #include "equal_reports.h"
-#include "findings_run.h"
 #include "follow.h"
 #include "learn.h"
-#include "allocation.h"
 #include "output_files.h"
+#include "report_files.h"
 #include "show_run.h"
 #include "survivors.h"
 #include "tell_process.h"
@@ -252,10 +252,10 @@ int show_ends(struct run *run, const struct ending *ending)
         keep_recording(run);
     look_around(run);
     run_has_word(run, 0);
-    findings_begin(run);
+    report_files_begin(run);
     run->settings.progress = isatty(STDERR_FILENO);
     int status = tell_run(run);
-    findings_finish(run);
+    report_files_write(run);
     end_run(run);
     work_folder_end();
     return status;

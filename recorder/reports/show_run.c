@@ -9,8 +9,3 @@ void keep_recording(struct run *run)
     run->is_kept = true;
     work_folder_keep();
 }
-
-bool is_asked(const char *word)
-{
-    return word && *word;
-}

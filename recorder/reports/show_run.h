@@ -8,12 +8,12 @@
 #include <stddef.h>
 
 #include "alarms.h"
-#include "findings.h"
 #include "notes.h"
 #include "output.h"
 #include "replay_answers.h"
 #include "report.h"
 #include "resolve.h"
+#include "run_reports.h"
 #include "settings.h"
 #include "show.h"
 #include "state.h"
@@ -71,9 +71,9 @@ struct run {
     size_t tolds, told_room;
     struct followed *followed; /* streams that were read while the program ran (follow.c) */
     size_t followeds, followed_room;
-    long long follow_next;    /* when they are looked at again, in microseconds */
-    struct findings findings; /* for files that were asked for, and for reports to be confirmed */
-    struct watched *watched;  /* of a steered run (steered_run.h); NULL of any other */
+    long long follow_next;       /* when they are looked at again, in microseconds */
+    struct run_reports gathered; /* for files that were asked for, and for reports to be confirmed */
+    struct watched *watched;     /* of a steered run (steered_run.h); NULL of any other */
 };
 
 struct process {
@@ -104,8 +104,5 @@ void run_has_word(struct run *run, long speaker);
 /* Finds the files of processes that have lines by now; and forgets them. */
 void find_recordings(struct run *run);
 void forget_recordings(struct run *run);
-
-/* Whether something was asked for by that word of the settings. */
-bool is_asked(const char *word);
 
 #endif

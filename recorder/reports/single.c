@@ -48,8 +48,8 @@ static struct key key_of(const struct single_pair *pair)
         (uint32_t)pair->how << 3 | (uint32_t)pair->under << 2 | (uint32_t)pair->held.shared << 1 | pair->asked.shared}};
 }
 
-/* The pair that this one tells more of, or a place for it. */
-static struct single_pair *place_of(struct single *single, const struct single_pair *pair)
+/* The pair that this one tells more of, or a new one. */
+static struct single_pair *slot_of(struct single *single, const struct single_pair *pair)
 {
     struct key key = key_of(pair);
     size_t *number = map_add(&single->by_key, &key, sizeof key);
@@ -111,7 +111,7 @@ void single_reads_pair(struct single *single, const struct line *line, uint32_t 
         || !read_lock(line, PAIR_HELD, &told.pair.held, &told) || !read_lock(line, PAIR_ASKED, &told.pair.asked, &told))
         return;
     telling.thread = thread;
-    struct single_pair *pair = place_of(single, &told.pair);
+    struct single_pair *pair = slot_of(single, &told.pair);
     take_news(pair, &told.pair);
     add_telling(single, pair, &told, telling, took);
 }

@@ -5,11 +5,11 @@
 #include <string.h>
 #include <unistd.h>
 
+#include "allocation.h"
 #include "files.h"
 #include "map.h"
-#include "allocation.h"
-#include "place.h"
 #include "schedule.h"
+#include "site_parts.h"
 
 /* So many lines are told before and after a place. Beyond it a file is no source that somebody reads, and a line isn't told further. */
 enum { AROUND = 3, FILE_MOST = 64 << 20, LINE_MOST = 400 };
@@ -21,19 +21,19 @@ struct source {
 };
 
 struct sources {
-    const struct findings *findings;
+    const struct run_reports *gathered;
     char *folder; /* the directory's own name; NULL where it isn't there */
     struct map number;
     struct source *source;
     size_t count, room;
 };
 
-static struct source *source_of(struct sources *sources, const struct place *place)
+static struct source *source_of(struct sources *sources, const struct site_parts *parts)
 {
-    size_t *number = map_add(&sources->number, place->file, place->length);
+    size_t *number = map_add(&sources->number, parts->file, parts->length);
     if (*number == 0) {
         ADD(sources->source, sources->count, sources->room) =
-            (struct source){.file = copy_bytes(place->file, place->length)};
+            (struct source){.file = copy_bytes(parts->file, parts->length)};
         *number = sources->count;
     }
     return &sources->source[*number - 1];
@@ -42,19 +42,19 @@ static struct source *source_of(struct sources *sources, const struct place *pla
 /* The file of the place; with its lines, where they are to be told. */
 static void add(struct sources *sources, const char *site, bool with_lines)
 {
-    struct place place;
-    if (!place_read(&place, site) || place.line == 0)
+    struct site_parts parts;
+    if (!site_parts_read(&parts, site) || parts.line == 0)
         return;
-    struct source *source = source_of(sources, &place);
+    struct source *source = source_of(sources, &parts);
     if (with_lines)
-        ADD(source->line, source->lines, source->room) = place.line;
+        ADD(source->line, source->lines, source->room) = parts.line;
 }
 
-static void add_finding(struct sources *sources, const struct finding *finding)
+static void add_report(struct sources *sources, const struct run_report *entry)
 {
-    const struct report *report = finding->report;
-    const struct schedule *schedule = finding->schedule;
-    const struct confirmed *confirmed = finding->confirmed;
+    const struct report *report = entry->report;
+    const struct schedule *schedule = entry->schedule;
+    const struct confirmed *confirmed = entry->confirmed;
     for (size_t i = 0; i < report->lines; i++) {
         const struct frames *frames = report->line[i].frames;
         add(sources, report->line[i].site, true);
@@ -71,7 +71,7 @@ static void add_finding(struct sources *sources, const struct finding *finding)
 
 static char *path_of(const struct sources *sources, const char *file)
 {
-    const char *directory = sources->findings->directory;
+    const char *directory = sources->gathered->directory;
     return *file == '/' || !directory ? copy(file) : say_text("%s/%s", directory, file);
 }
 
@@ -152,7 +152,7 @@ static void write_source(struct objects *to, const struct sources *sources, stru
     struct stat found = {0};
     FILE *from = open_source(sources, source->file, &found);
     char *name = own_name(sources, source->file);
-    time_t built = sources->findings->built;
+    time_t built = sources->gathered->built;
     object_open(to, NULL, '{');
     object_text(to, "file", source->file);
     object_text(to, "path", name);
@@ -167,12 +167,12 @@ static void write_source(struct objects *to, const struct sources *sources, stru
         fclose(from);
 }
 
-void sources_write(struct objects *to, const struct findings *findings)
+void sources_write(struct objects *to, const struct run_reports *gathered)
 {
-    struct sources sources = {.findings = findings,
-        .folder = findings->directory ? realpath(findings->directory, NULL) : NULL};
-    for (size_t i = 0; i < findings->findings; i++)
-        add_finding(&sources, &findings->finding[i]);
+    struct sources sources = {.gathered = gathered,
+        .folder = gathered->directory ? realpath(gathered->directory, NULL) : NULL};
+    for (size_t i = 0; i < gathered->reports; i++)
+        add_report(&sources, &gathered->report[i]);
     object_open(to, "sources", '[');
     for (size_t i = 0; i < sources.count; i++) {
         write_source(to, &sources, &sources.source[i]);

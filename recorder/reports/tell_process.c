@@ -4,19 +4,19 @@
 #include <stdlib.h>
 #include <string.h>
 
+#include "allocation.h"
 #include "circle.h"
 #include "equal_reports.h"
 #include "error_words.h"
-#include "findings_run.h"
 #include "follow.h"
 #include "grades.h"
 #include "learn.h"
 #include "legality.h"
-#include "allocation.h"
 #include "missed_calls.h"
 #include "output_files.h"
 #include "place_words.h"
 #include "replay.h"
+#include "report_files.h"
 #include "report_text.h"
 #include "thread_locks.h"
 #include "version.h"
@@ -73,7 +73,7 @@ static void grade(struct process *process)
 static void write_report(struct process *process, const struct report *report, FILE *to)
 {
     struct run *run = process->run;
-    report_write(to, report, run->settings.frames > 1, run->settings.suppressions);
+    report_write(to, report, run->settings.frames > 1, run->settings.ignore_lines);
     grade(process);
     char *text = alarm_text(&report->alarm), *schedule = schedule_line(report->schedule);
     if (run->settings.frames > 1 && *text)
@@ -317,13 +317,13 @@ static void tell_all(struct process *process)
     tell_held(process);
     look_for_premises(process);
     if (is_replayed(process))
-        judge(process);
+        tell_legality(process);
     if (is_replayed(process))
         learn_take(process);
     tell_missed(process);
     keep_for_later(process);
     keep_trace(process);
-    findings_take(process);
+    report_files_take(process);
 }
 
 void tell_process(struct run *run, const struct recording *recording)

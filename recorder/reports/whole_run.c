@@ -1,13 +1,13 @@
 #include "whole_run.h"
 
-#include <stdio.h>
 #include <stdlib.h>
 #include <string.h>
 
-#include "ignore.h"
+#include "ignore_file.h"
 #include "libdw.h"
 #include "missed_calls.h"
 #include "resolve.h"
+#include "texts.h"
 
 static const char little_room[] = "a full disk, or a limit on the size of files";
 
@@ -59,11 +59,6 @@ void tell_status(struct run *run)
         tell_bare(run, &status->bare[i]);
 }
 
-static int compare_texts(const void *one, const void *other)
-{
-    return strcmp(*(const char *const *)one, *(const char *const *)other);
-}
-
 void tell_blind(struct run *run)
 {
     if (run->blinds > 0)
@@ -91,7 +86,7 @@ static bool is_matched(const struct run *run, unsigned long number)
 
 void tell_unmatched(struct run *run)
 {
-    const struct ignore *ignore = resolver_ignore(run->resolver);
+    const struct ignore_file *ignore = resolver_ignore(run->resolver);
     for (size_t i = 0; i < ignore->lines; i++) {
         const struct ignore_line *line = &ignore->line[i];
         if (!is_matched(run, line->number))

@@ -1,14 +1,13 @@
 #include "confirm.h"
 
 #include <stdlib.h>
-#include <string.h>
 #include <sys/stat.h>
 #include <unistd.h>
 
+#include "allocation.h"
 #include "clock.h"
 #include "confirm_words.h"
 #include "describe.h"
-#include "allocation.h"
 #include "show_run.h"
 #include "steered_run.h"
 #include "steering_plan.h"
@@ -137,9 +136,9 @@ void confirm_subjects(struct run *run, struct subject *subject, size_t count)
 
 /* The reports of this run. */
 
-static int compare_findings(const void *left, const void *right)
+static int compare_reports(const void *left, const void *right)
 {
-    const struct finding *one = *(struct finding *const *)left, *other = *(struct finding *const *)right;
+    const struct run_report *one = *(struct run_report *const *)left, *other = *(struct run_report *const *)right;
     if (alarm_has_word(&one->alarm) != alarm_has_word(&other->alarm))
         return alarm_has_word(&one->alarm) ? 1 : -1;
     int difference = alarm_mildness(&one->alarm) - alarm_mildness(&other->alarm);
@@ -147,30 +146,30 @@ static int compare_findings(const void *left, const void *right)
 }
 
 /* Those that can be steered, the worst first: a list of one's own. */
-static struct finding **findings_sorted(struct findings *findings, size_t *count)
+static struct run_report **reports_sorted(struct run_reports *gathered, size_t *count)
 {
-    struct finding **sorted = take((findings->findings + 1) * sizeof *sorted);
+    struct run_report **sorted = take((gathered->reports + 1) * sizeof *sorted);
     *count = 0;
-    for (size_t i = 0; i < findings->findings; i++) {
-        struct finding *finding = &findings->finding[i];
-        enum report_kind kind = finding->report->kind;
-        if (!finding->is_ignored && (kind == REPORT_REVERSAL || kind == REPORT_DUPLICATE))
-            sorted[(*count)++] = finding;
+    for (size_t i = 0; i < gathered->reports; i++) {
+        struct run_report *entry = &gathered->report[i];
+        enum report_kind kind = entry->report->kind;
+        if (!entry->is_ignored && (kind == REPORT_REVERSAL || kind == REPORT_DUPLICATE))
+            sorted[(*count)++] = entry;
     }
-    qsort(sorted, *count, sizeof *sorted, compare_findings);
+    qsort(sorted, *count, sizeof *sorted, compare_reports);
     return sorted;
 }
 
 /* Its texts but those of the report are its own. */
-static struct subject subject_of(const struct settings *settings, struct finding *finding)
+static struct subject subject_of(const struct settings *settings, struct run_report *entry)
 {
     const char **type = take(TYPES_SHOWN * sizeof *type);
     struct planned *planned = take(sizeof *planned);
-    struct subject subject = {.planned = planned, .type = type, .about = report_about(finding->report)};
-    subject.types = report_types(finding->report, type, TYPES_SHOWN);
-    subject.runs = finding->alarm.grade == GRADE_ONE_THREAD ? 1 : (unsigned)settings->confirm;
-    subject.confirmed = finding->confirmed = take(sizeof *finding->confirmed);
-    if (!planned_of(planned, finding->report, &finding->found->notes)) {
+    struct subject subject = {.planned = planned, .type = type, .about = report_about(entry->report)};
+    subject.types = report_types(entry->report, type, TYPES_SHOWN);
+    subject.runs = entry->alarm.grade == GRADE_ONE_THREAD ? 1 : (unsigned)settings->confirm;
+    subject.confirmed = entry->confirmed = take(sizeof *entry->confirmed);
+    if (!planned_of(planned, entry->report, &entry->found->notes)) {
         free(planned);
         subject.planned = NULL;
     }
@@ -180,12 +179,12 @@ static struct subject subject_of(const struct settings *settings, struct finding
 /* Those that are confirmed are the ones that count, where that is wanted. */
 static void count_alarms(struct run *run)
 {
-    struct findings *findings = &run->findings;
+    struct run_reports *gathered = &run->gathered;
     if (!run->alarms_wanted.confirmed)
         return;
     run->alarms = run->confirmed;
-    for (size_t i = 0; i < findings->findings; i++)
-        findings->finding[i].counts &= is_confirmed(findings->finding[i].confirmed);
+    for (size_t i = 0; i < gathered->reports; i++)
+        gathered->report[i].counts &= is_confirmed(gathered->report[i].confirmed);
 }
 
 void confirm_reports(struct run *run)
@@ -193,8 +192,8 @@ void confirm_reports(struct run *run)
     size_t count;
     if (!confirm_is_wanted(&run->settings) || !run->settings.again)
         return;
-    findings_gather(&run->findings);
-    struct finding **sorted = findings_sorted(&run->findings, &count);
+    run_reports_gather(&run->gathered);
+    struct run_report **sorted = reports_sorted(&run->gathered, &count);
     struct subject *subject = take((count + 1) * sizeof *subject);
     for (size_t i = 0; i < count; i++)
         subject[i] = subject_of(&run->settings, sorted[i]);

@@ -4,9 +4,9 @@
 #include <stdlib.h>
 #include <string.h>
 
-#include "confirm.h"
-#include "json_read.h"
 #include "allocation.h"
+#include "confirm.h"
+#include "json_reader.h"
 #include "object_file.h"
 #include "place_words.h"
 #include "show_run.h"

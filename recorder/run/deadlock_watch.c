@@ -5,9 +5,9 @@
 #include <stdlib.h>
 #include <string.h>
 
+#include "allocation.h"
 #include "circle.h"
 #include "follow.h"
-#include "allocation.h"
 #include "option_words.h"
 #include "report_text.h"
 

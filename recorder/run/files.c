@@ -89,3 +89,16 @@ bool file_fill(const char *path, size_t bytes)
     }
     return close(file) == 0 && bytes == 0;
 }
+
+const char *program_called(const char *here, const char *variable, const char *name)
+{
+    const char *named = getenv(variable);
+    if (named && *named)
+        return named;
+    char *top = file_folder(here), *program = say_text("%s/%s", top, name);
+    char *built = say_text("%s/crates/%s/out/%s", top, name, name);
+    bool is_built = access(program, X_OK) != 0 && access(built, X_OK) == 0;
+    free(top);
+    free(is_built ? program : built);
+    return is_built ? built : program;
+}

@@ -17,6 +17,11 @@ char *file_folder(const char *path);
 /* The file that a program's name means, as a text of one's own; NULL where there is none. */
 char *file_of(const char *program);
 
+/*
+ * The program of that name: the one that the variable names, else the one of the repository or of the installed tree.
+ */
+const char *program_called(const char *here, const char *variable, const char *name);
+
 /* Whether that can be run as a program. */
 bool file_is_command(const char *program);
 

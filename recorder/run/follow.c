@@ -5,9 +5,9 @@
 #include <string.h>
 #include <unistd.h>
 
+#include "allocation.h"
 #include "clock.h"
 #include "deadlock_watch.h"
-#include "allocation.h"
 #include "live_verdict.h"
 #include "replay.h"
 #include "tell_process.h"

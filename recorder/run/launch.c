@@ -18,10 +18,10 @@
 #include <time.h>
 #include <unistd.h>
 
+#include "allocation.h"
 #include "child_words.h"
 #include "clock.h"
 #include "interrupts.h"
-#include "allocation.h"
 #include "usage.h"
 
 /* How many microseconds what the program has left running is waited for. */

@@ -4,8 +4,8 @@
 #include <string.h>
 #include <unistd.h>
 
-#include "files.h"
 #include "allocation.h"
+#include "files.h"
 #include "option_words.h"
 #include "usage.h"
 

@@ -2,8 +2,8 @@
 
 #include <string.h>
 
-#include "format.h"
 #include "allocation.h"
+#include "format.h"
 #include "source_names.h"
 
 static bool is_blank(char byte)

@@ -6,8 +6,8 @@
 #include <string.h>
 #include <unistd.h>
 
-#include "files.h"
 #include "allocation.h"
+#include "files.h"
 
 /* So much of a file is read; a script's script's script is one, and no more. */
 enum { HEAD = 1 << 16, SCRIPTS = 4 };

@@ -3,8 +3,8 @@
 #include <stdlib.h>
 #include <string.h>
 
-#include "format.h"
 #include "allocation.h"
+#include "format.h"
 
 #define AS_NUMBER(number, name) number,
 #define AS_NAME(number, name) name,

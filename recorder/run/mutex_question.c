@@ -8,10 +8,10 @@
 #include <time.h>
 #include <unistd.h>
 
+#include "allocation.h"
 #include "files.h"
 #include "format.h"
 #include "interrupts.h"
-#include "allocation.h"
 
 /* How often the byte is looked at, and how many nanoseconds lie between. */
 enum { LOOKS = 10, PAUSE = 100000000 };

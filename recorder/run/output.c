@@ -6,8 +6,8 @@
 #include <string.h>
 #include <unistd.h>
 
-#include "colour.h"
 #include "allocation.h"
+#include "colour.h"
 #include "output_files.h"
 #include "write_all.h"
 

@@ -11,11 +11,11 @@
 #include <sys/stat.h>
 #include <unistd.h>
 
+#include "allocation.h"
 #include "files.h"
 #include "format.h"
-#include "ignore.h"
+#include "ignore_file.h"
 #include "learn.h"
-#include "allocation.h"
 #include "output.h"
 #include "output_files.h"
 #include "right_orders.h"
@@ -32,15 +32,15 @@ static void *mapped = MAP_FAILED;
 static void check_ignore(const char *path)
 {
     struct stat found;
-    struct ignore ignore = {.is_unread = true};
+    struct ignore_file ignore = {.is_unread = true};
     unsigned long bad = 0;
     if (stat(path, &found) == 0 && S_ISREG(found.st_mode))
-        bad = ignore_read(&ignore, path);
+        bad = ignore_file_read(&ignore, path);
     if (ignore.is_unread)
         refuse("%s can't be read", path);
     if (bad)
         refuse("%s: line %lu isn't \"TYPE\" or \"TYPE\" \"TYPE\"", path, bad);
-    ignore_end(&ignore);
+    ignore_file_end(&ignore);
 }
 
 static void check_right(const char *path)

@@ -4,9 +4,9 @@
 #include <stdlib.h>
 #include <string.h>
 
+#include "allocation.h"
 #include "document.h"
 #include "files.h"
-#include "allocation.h"
 #include "show_run.h"
 #include "usage.h"
 #include "verdict.h"

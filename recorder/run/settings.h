@@ -42,14 +42,20 @@ struct settings {
     int noise;                 /* --confirm=noise: the longest pause of a request, in milliseconds; 0 for none */
     const struct again *again; /* how the program is begun again (steered_run.h) */
     const char *colour;        /* --color; NULL is auto */
-    bool suppressions;
-    bool judge;          /* --judge, which goes: whether the trace is one of locks is asked */
-    bool no_errors;      /* --alarms no-errors: errors in the use of locks aren't told */
-    bool in_debugger;    /* the program's process is a debugger's child */
-    bool quiet;          /* nothing is told before the program has ended */
-    bool progress;       /* somebody sits at a terminal */
-    bool shows_children; /* -v: what is run is told, and the recording is kept */
-    bool one_by_one;     /* the verifier is begun anew for each process */
+    bool ignore_lines;         /* --gen-suppressions: below each report stands the line that would have it ignored */
+    bool judge;                /* --judge, which goes: whether the trace is one of locks is asked */
+    bool no_errors;            /* --alarms no-errors: errors in the use of locks aren't told */
+    bool in_debugger;          /* the program's process is a debugger's child */
+    bool quiet;                /* nothing is told before the program has ended */
+    bool progress;             /* somebody sits at a terminal */
+    bool shows_children;       /* -v: what is run is told, and the recording is kept */
+    bool one_by_one;           /* the verifier is begun anew for each process */
 };
+
+/* Whether something was asked for by that word of the settings. */
+static inline bool is_asked(const char *word)
+{
+    return word && *word;
+}
 
 #endif

@@ -4,8 +4,8 @@
 #include <stdlib.h>
 #include <string.h>
 
-#include "format.h"
 #include "allocation.h"
+#include "format.h"
 #include "source_names.h"
 
 /* A line of the word and its value, which may have a newline of its own. */
@@ -35,11 +35,6 @@ bool kept_write(const struct settings *settings, const char *work)
     put(file, "program", settings->program);
     bool whole = !ferror(file);
     return fclose(file) == 0 && whole;
-}
-
-static bool is_asked(const char *word)
-{
-    return word && *word;
 }
 
 /* The value of the line, if the line is that word's; it is the caller's. */

@@ -4,9 +4,9 @@
 #include <string.h>
 #include <unistd.h>
 
+#include "allocation.h"
 #include "files.h"
 #include "format.h"
-#include "allocation.h"
 #include "source_names.h"
 
 enum { BYTES_LEAST = 65536 };

@@ -12,10 +12,10 @@
 #include <time.h>
 #include <unistd.h>
 
+#include "allocation.h"
 #include "child_words.h"
 #include "clock.h"
 #include "interrupts.h"
-#include "allocation.h"
 #include "prepare.h"
 #include "show_run.h"
 #include "sleepers.h"

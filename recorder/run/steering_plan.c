@@ -6,9 +6,9 @@
 #include <sys/stat.h>
 #include <unistd.h>
 
+#include "allocation.h"
 #include "confirm.h"
 #include "files.h"
-#include "allocation.h"
 #include "write_all.h"
 
 enum { PAUSE_MS = 50, BACK_LEAST_MS = 100, BACK_MOST_MS = 1500 };

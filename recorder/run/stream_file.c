@@ -1,9 +1,8 @@
 #include "stream_file.h"
 
-#include "files.h"
+#include "allocation.h"
 #include "format.h"
 #include "line.h"
-#include "allocation.h"
 #include "source_names.h"
 
 #include <errno.h>

@@ -8,6 +8,7 @@
 #include <unistd.h>
 
 #include "allocation.h"
+#include "texts.h"
 
 enum { TOLD_MOST = 8 };
 
@@ -161,11 +162,6 @@ static void add_mapped(struct objects *objects, long process)
     if (maps)
         fclose(maps);
     free(line);
-}
-
-static int compare_texts(const void *one, const void *other)
-{
-    return strcmp(*(char *const *)one, *(char *const *)other);
 }
 
 char **objects_of_run(const struct run *run, size_t *count)

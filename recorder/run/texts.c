@@ -79,3 +79,8 @@ bool has_text(const char *const *list, size_t count, const char *text)
         at++;
     return at < count;
 }
+
+int compare_texts(const void *one, const void *other)
+{
+    return strcmp(*(const char *const *)one, *(const char *const *)other);
+}

@@ -18,6 +18,9 @@ void *texts_room(struct texts *texts, size_t bytes);
 const char *texts_copy(struct texts *texts, const char *bytes, size_t length);
 const char *texts_say(struct texts *texts, const char *format, ...) __attribute__((format(printf, 2, 3)));
 
+/* The order of two texts in a list, for qsort and bsearch. */
+int compare_texts(const void *one, const void *other);
+
 /* Whether that text is in the list. */
 bool has_text(const char *const *list, size_t count, const char *text);
 

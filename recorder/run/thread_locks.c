@@ -1,7 +1,6 @@
 #include "thread_locks.h"
 
 #include <stdlib.h>
-#include <string.h>
 
 #include "allocation.h"
 #include "place_words.h"

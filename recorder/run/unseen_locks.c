@@ -6,9 +6,9 @@
 #include <string.h>
 #include <unistd.h>
 
+#include "allocation.h"
 #include "files.h"
 #include "format.h"
-#include "allocation.h"
 #include "text_search.h"
 
 enum { CHUNK_BYTES = 1 << 20, PYTHON = 2 };

@@ -12,7 +12,7 @@
  * what is found of it is right; that a block was lost is counted, and then its locks have the types that they have without
  * the tables.
  */
-#include "quick.h"
+#include "recorder.h"
 
 #include <errno.h>
 #include <string.h>
@@ -356,7 +356,7 @@ EXPORT void witness_block_goes(void *from)
         take_out((uintptr_t)from);
 }
 
-/* It lets the block grow or shrink, by that function: it keeps its callers, and its locks where it stays at its place. */
+/* It lets the block grow or shrink, by that function: it keeps its callers, and its locks where it stays there. */
 EXPORT void *witness_block_moves(void *from, size_t size, uintptr_t pc, uintptr_t stack, uintptr_t base,
     void *(*move)(void *, size_t))
 {

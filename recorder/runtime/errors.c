@@ -109,6 +109,8 @@ static void tell_reread(void *argument)
 COLD void error_of_reread(struct request *request)
 {
     const pthread_rwlock_t *lock = (const void *)atomic_load(&request->lock->address);
+    if (request->again_refused)
+        return; /* it writes the lock */
     if (request->lock->type->class == TOLD_RWLOCK || lock->__data.__flags == PTHREAD_RWLOCK_PREFER_WRITER_NONRECURSIVE_NP)
         aside(tell_reread, request);
 }

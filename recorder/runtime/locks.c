@@ -7,7 +7,7 @@
  * are chained by pieces of memory, so that a freed block finds the locks that were in it.
  */
 #include "label.h"
-#include "quick.h"
+#include "recorder.h"
 
 #include <malloc.h>
 #include <string.h>
@@ -440,14 +440,6 @@ void locks_freed(const void *block)
         return;
     GOES_INSIDE_OR(HERE) return;
     aside(free_locks_in, &(struct block){at, end});
-}
-
-bool type_label_was_met(const struct type *type)
-{
-    for (uint32_t i = 1; i < type->number; i++)
-        if (types[i].label && labels_part(types[i].label, type->label))
-            return true;
-    return false;
 }
 
 uint32_t lock_youngest(void)

@@ -5,7 +5,7 @@
  * words and of its line. So it is found as a return address is. Its callers are those that are told with it; or where its
  * function isn't told, those of the call. Words and places are found without the mutex; neither ever goes.
  */
-#include "quick.h"
+#include "recorder.h"
 
 #include <string.h>
 

@@ -4,7 +4,7 @@
  * that it is started, and the program itself says that it is loaded. A program that is started by a bare call of the
  * kernel isn't seen here.
  */
-#include "quick.h"
+#include "recorder.h"
 
 #include <errno.h>
 #include <limits.h>

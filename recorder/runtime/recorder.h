@@ -57,7 +57,6 @@
 #include <sys/mman.h>
 #include <sys/types.h>
 #include <threads.h>
-#include <time.h>
 #include <unistd.h>
 
 int __register_atfork(void (*)(void), void (*)(void), void (*)(void), void *); /* what pthread_atfork calls */
@@ -535,8 +534,6 @@ void object_gone(uintptr_t from, uintptr_t to);
 void lock_given_up(struct lock *lock);
 /* The serial number of the youngest lock; and those up to that one which were there are gone. Nothing is read there. */
 uint32_t lock_youngest(void);
-/* Whether an earlier type has the type's label but for the column. Under the mutex. */
-bool type_label_was_met(const struct type *type);
 void locks_left(uintptr_t from, uintptr_t to, uint32_t youngest);
 /* The first held mutex whose record has that number or a higher one; *at becomes its number. Under the mutex. */
 struct lock *lock_held_from(uint32_t *at, int32_t *holder);
@@ -642,6 +639,10 @@ void objects_begin(void);
 void objects_look(void);
 /* Whether the object of an address can be asked for; else objects_look comes before. */
 bool objects_are_found(void);
+
+/* libraries.c */
+/* Somebody there was told of that address by a handle. Where it is the C library's own call, that is noted. */
+void library_finds(const void *found, uintptr_t pc, uintptr_t stack);
 
 /* rebind.c */
 void library_comes(void);  /* an object may come that needs a library of library_locks.h */

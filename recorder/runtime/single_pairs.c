@@ -10,8 +10,8 @@
  * The table is hashed, and at most half full. A wider one takes its place then; what it has is copied, and the old one stays
  * for those that read it. The widest one has room for 2^21 pairs, which are 64 MiB. All tables together are 85 MiB then.
  */
-#include "single_pairs.h"
 #include "quick.h"
+#include "single_pairs.h"
 
 enum { SLOTS_FIRST = 1 << 11, SLOTS_MOST = 1 << 21, WIDER = 4, PAIRS_MOST = 1000000 };
 

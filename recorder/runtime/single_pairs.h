@@ -16,7 +16,7 @@
 
 #include "recorder.h"
 
-/* How a lock is asked for, as pairs tell it apart. */
+/* How a lock is asked for: pairs are parted by it. */
 enum asked_how { ASKED_PLAINLY, ASKED_FOR_A_TIME, ASKED_REPEATEDLY, ASKED_AS_A_WAIT_ENDS };
 
 /* So many locks that were held besides are kept; and so many slots are looked at for a pair. */

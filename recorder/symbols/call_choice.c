@@ -1,10 +1,10 @@
 #include "call_choice.h"
 
+#include "allocation.h"
 #include "call_words.h"
 #include "declarations.h"
 #include "lock_names.h"
 #include "map.h"
-#include "allocation.h"
 #include "source_names.h"
 #include "source_text.h"
 #include "steps.h"

@@ -1,5 +1,5 @@
 /*
- * Which one of several calls in a function a line is, where the source's words don't tell them apart.
+ * Which one of several calls in a function a line is, where the source's words don't part them.
  */
 #ifndef RECORD_CALL_CHOICE_H
 #define RECORD_CALL_CHOICE_H

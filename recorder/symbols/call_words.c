@@ -1,7 +1,7 @@
 #include "call_words.h"
 
-#include "lock_expression.h"
 #include "allocation.h"
+#include "lock_expression.h"
 #include "source_names.h"
 #include "source_text.h"
 

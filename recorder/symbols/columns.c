@@ -3,10 +3,10 @@
 #include <stdlib.h>
 #include <string.h>
 
+#include "allocation.h"
 #include "declarations.h"
 #include "label.h"
 #include "map.h"
-#include "allocation.h"
 #include "sites.h"
 #include "texts.h"
 

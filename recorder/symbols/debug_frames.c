@@ -2,8 +2,8 @@
 
 #include <string.h>
 
-#include "demangle.h"
 #include "allocation.h"
+#include "demangle.h"
 
 /* A lambda that wasn't inlined has a name in the object alone. */
 static char *lambda_in_object(struct debug_info *info, const struct entry *function, uint64_t address)

@@ -1,7 +1,7 @@
 #include "debug_info.h"
 
-#include "libdw.h"
 #include "allocation.h"
+#include "libdw.h"
 
 #include <stdlib.h>
 

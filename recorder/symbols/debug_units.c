@@ -1,9 +1,9 @@
 #include "debug_info.h"
 
+#include "allocation.h"
 #include "debug_types.h"
 #include "files.h"
 #include "libdw.h"
-#include "allocation.h"
 
 #include <stdlib.h>
 #include <unistd.h>

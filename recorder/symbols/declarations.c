@@ -1,9 +1,9 @@
 #include "declarations.h"
 
+#include "allocation.h"
 #include "columns.h"
 #include "files.h"
 #include "format.h"
-#include "allocation.h"
 #include "progress.h"
 #include "source_names.h"
 #include "texts.h"

@@ -1,8 +1,8 @@
 #include "fields.h"
 
+#include "allocation.h"
 #include "debug_info.h"
 #include "declarations.h"
-#include "allocation.h"
 #include "source_lines.h"
 #include "source_text.h"
 

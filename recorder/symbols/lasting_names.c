@@ -1,11 +1,11 @@
 #include "lasting_names.h"
 
+#include "allocation.h"
 #include "call_choice.h"
 #include "declarations.h"
 #include "label.h"
 #include "lasting_variables.h"
 #include "lock_names.h"
-#include "allocation.h"
 #include "source_names.h"
 #include "steps.h"
 #include "texts.h"

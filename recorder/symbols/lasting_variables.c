@@ -1,7 +1,7 @@
 #include "lasting_variables.h"
 
-#include "declarations.h"
 #include "allocation.h"
+#include "declarations.h"
 #include "source_names.h"
 #include "texts.h"
 #include "variables.h"

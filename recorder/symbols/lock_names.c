@@ -1,5 +1,6 @@
 #include "lock_names.h"
 
+#include "allocation.h"
 #include "call_choice.h"
 #include "call_words.h"
 #include "columns.h"
@@ -8,7 +9,6 @@
 #include "lock_expression.h"
 #include "map.h"
 #include "members.h"
-#include "allocation.h"
 #include "steps.h"
 #include "texts.h"
 

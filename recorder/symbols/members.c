@@ -1,11 +1,11 @@
 #include "members.h"
 
 #include "allocation.h"
+#include "expression_values.h"
 #include "files.h"
 #include "scopes.h"
 #include "source_names.h"
 #include "source_text.h"
-#include "expression_values.h"
 
 #include <ctype.h>
 #include <limits.h>

@@ -16,7 +16,7 @@ void notes_end(struct notes *notes)
     free(notes->library);
     free(notes->lock);
     single_end(&notes->single);
-    ignored_end(&notes->ignored);
+    ignored_types_end(&notes->ignored);
     lock_pairs_end(&notes->pairs);
     texts_end(notes->texts);
     texts_end(notes->derived);

@@ -8,10 +8,10 @@
 #include <stddef.h>
 #include <stdint.h>
 
+#include "ignored_types.h"
 #include "lasting_names.h"
 #include "lock_pairs.h"
 #include "map.h"
-#include "ignored.h"
 #include "single.h"
 
 /* A function and its FILE:LINE, of a stack. */
@@ -107,13 +107,13 @@ struct notes {
     size_t libraries, library_room;
     struct lock_name *lock; /* lock[N - 1] is that of number N */
     size_t locks, lock_room;
-    struct single single;    /* the pairs of single locks */
-    struct ignored ignored;  /* what of its types isn't told */
-    struct lock_pairs pairs; /* of single locks, where orders are learnt or reports are to be confirmed */
-    unsigned long pending;   /* requests that never ended */
-    bool has_shared;         /* a lock may be taken by other processes, too */
-    struct texts *texts;     /* what the texts stand in */
-    struct texts *derived;   /* those of aliases and of the types of single locks */
+    struct single single;         /* the pairs of single locks */
+    struct ignored_types ignored; /* what of its types isn't told */
+    struct lock_pairs pairs;      /* of single locks, where orders are learnt or reports are to be confirmed */
+    unsigned long pending;        /* requests that never ended */
+    bool has_shared;              /* a lock may be taken by other processes, too */
+    struct texts *texts;          /* what the texts stand in */
+    struct texts *derived;        /* those of aliases and of the types of single locks */
 };
 
 void notes_end(struct notes *notes);

@@ -1,10 +1,9 @@
 #include "resolve.h"
 
+#include "allocation.h"
 #include "columns.h"
 #include "declarations.h"
-#include "ignore.h"
-#include "allocation.h"
-#include "verifier_lines.h"
+#include "ignore_file.h"
 #include "right_orders.h"
 #include "sites.h"
 #include "symbols.h"
@@ -12,6 +11,7 @@
 #include "trace.h"
 #include "type_names.h"
 #include "types.h"
+#include "verifier_lines.h"
 
 #include <stdlib.h>
 #include <string.h>
@@ -19,7 +19,7 @@
 struct resolver {
     const struct settings *settings;
     struct symbols *symbols;
-    struct ignore ignore;
+    struct ignore_file ignore;
     struct right_orders right;
     struct told_names *told;
 };
@@ -31,7 +31,7 @@ struct resolver *resolver_new(const struct settings *settings)
     resolver->symbols = symbols_new(settings->skip);
     resolver->told = told_names_new();
     if (settings->ignore && *settings->ignore)
-        ignore_read(&resolver->ignore, settings->ignore);
+        ignore_file_read(&resolver->ignore, settings->ignore);
     const char *right = settings->right ? settings->right : settings->right_usually;
     if (right && strcmp(right, "-") != 0)
         right_orders_read(&resolver->right, right);
@@ -44,12 +44,12 @@ void resolver_end(struct resolver *resolver)
         return;
     symbols_end(resolver->symbols);
     told_names_end(resolver->told);
-    ignore_end(&resolver->ignore);
+    ignore_file_end(&resolver->ignore);
     right_orders_end(&resolver->right);
     free(resolver);
 }
 
-const struct ignore *resolver_ignore(const struct resolver *resolver)
+const struct ignore_file *resolver_ignore(const struct resolver *resolver)
 {
     return &resolver->ignore;
 }
@@ -169,7 +169,7 @@ static bool declare(struct resolving *resolving, const char *at, const char *end
     bool has_requests = right_requests_read(resolving->requests, &resolving->types, at, end);
     if (!has_news && !is_first && !has_requests)
         return true;
-    ignored_begin(&resolving->notes, &resolving->resolver->ignore, &resolving->types);
+    ignore_file_note(&resolving->notes, &resolving->resolver->ignore, &resolving->types);
     right_requests_ignore(resolving->requests, &resolving->types, &resolving->notes);
     return true;
 }

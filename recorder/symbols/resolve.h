@@ -19,8 +19,8 @@ struct resolver *resolver_new(const struct settings *settings);
 void resolver_end(struct resolver *resolver);
 
 /* The ignore file, as it was read when this began. */
-struct ignore;
-const struct ignore *resolver_ignore(const struct resolver *resolver);
+struct ignore_file;
+const struct ignore_file *resolver_ignore(const struct resolver *resolver);
 
 /* The type of the stream was told of by its name, which it keeps. */
 void resolver_keeps(struct resolver *resolver, const struct stream *stream, const struct alias *alias);

@@ -13,7 +13,6 @@
 #include <stddef.h>
 
 #include "declarations.h"
-#include "ignore.h"
 #include "notes.h"
 #include "types.h"
 

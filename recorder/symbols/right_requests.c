@@ -1,10 +1,10 @@
 #include "right_orders.h"
 
+#include "allocation.h"
 #include "code_words.h"
 #include "format.h"
 #include "lasting_variables.h"
 #include "map.h"
-#include "allocation.h"
 #include "sites.h"
 #include "steps.h"
 #include "texts.h"
@@ -286,7 +286,7 @@ static const char *library_if_right(const struct right_requests *reading, uint32
 static void ignore(const struct right_requests *reading, const struct types *types, const struct met *met,
     struct notes *notes)
 {
-    struct ignored *ignored = &notes->ignored;
+    struct ignored_types *ignored = &notes->ignored;
     const char *held = types->type[met->held].name, *asked = types->type[met->asked].name;
     bool is_met = false, is_other_met = false, is_double = met->held == met->asked;
     const char *library = library_if_right(reading, met->held, met->asked, &is_met);

@@ -1,9 +1,9 @@
 #include "source_lines.h"
 
+#include "allocation.h"
 #include "files.h"
 #include "map.h"
-#include "allocation.h"
-#include "place.h"
+#include "site_parts.h"
 #include "texts.h"
 
 #include <stdlib.h>
@@ -62,11 +62,11 @@ static struct source read_source(const char *path)
     return source;
 }
 
-static const struct source *source_at(struct source_lines *lines, const struct place *place)
+static const struct source *source_at(struct source_lines *lines, const struct site_parts *parts)
 {
-    size_t *number = map_add(&lines->by_file, place->file, place->length);
+    size_t *number = map_add(&lines->by_file, parts->file, parts->length);
     if (*number == 0) {
-        char *path = copy_bytes(place->file, place->length);
+        char *path = copy_bytes(parts->file, parts->length);
         struct source source = read_source(path);
         ADD(lines->source, lines->sources, lines->source_room) = source;
         *number = lines->sources;
@@ -114,13 +114,13 @@ static const char *statement_in(struct texts *texts, const struct source *source
 static const struct statement *read_statement(struct source_lines *lines, const char *site)
 {
     struct statement *statement = texts_room(lines->texts, sizeof *statement);
-    struct place place;
-    if (!place_read(&place, site) || place.line < 1)
+    struct site_parts parts;
+    if (!site_parts_read(&parts, site) || parts.line < 1)
         return statement;
-    const struct source *source = source_at(lines, &place);
+    const struct source *source = source_at(lines, &parts);
     statement->changed = source->changed;
     if (source->bytes)
-        statement->text = statement_in(lines->texts, source, place.line);
+        statement->text = statement_in(lines->texts, source, parts.line);
     return statement;
 }
 
@@ -134,9 +134,9 @@ const struct statement *source_lines_at(struct source_lines *lines, const char *
 
 const char *source_lines_from(struct source_lines *lines, const char *site)
 {
-    struct place place;
-    if (!place_read(&place, site) || place.line < 1)
+    struct site_parts parts;
+    if (!site_parts_read(&parts, site) || parts.line < 1)
         return NULL;
-    const struct source *source = source_at(lines, &place);
-    return source->bytes ? line_in(source, place.line) : NULL;
+    const struct source *source = source_at(lines, &parts);
+    return source->bytes ? line_in(source, parts.line) : NULL;
 }

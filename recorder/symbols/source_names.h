@@ -5,7 +5,6 @@
 #define RECORD_SOURCE_NAMES_H
 
 #include <stdbool.h>
-#include <stddef.h>
 
 /* A function's name without what it takes, and without what a template was made for: in place. */
 void shorten(char *name);

@@ -5,7 +5,6 @@
 #define RECORD_SOURCE_TEXT_H
 
 #include <stdbool.h>
-#include <stddef.h>
 
 /*
  * A text from `at` to before `end`. No string and no comment is in it: these are blanks by then, so that brackets in

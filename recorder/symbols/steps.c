@@ -1,7 +1,7 @@
 #include "steps.h"
 
-#include "columns.h"
 #include "allocation.h"
+#include "columns.h"
 #include "files.h"
 #include "sites.h"
 #include "source_names.h"

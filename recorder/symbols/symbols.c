@@ -3,10 +3,10 @@
 #include <stdlib.h>
 #include <string.h>
 
+#include "allocation.h"
 #include "debug_frames.h"
 #include "demangle.h"
 #include "map.h"
-#include "allocation.h"
 #include "source_names.h"
 #include "texts.h"
 

@@ -1,9 +1,9 @@
 #include "trace.h"
 
 #include "format.h"
-#include "stream_locks.h"
 #include "place_words.h"
 #include "progress.h"
+#include "stream_locks.h"
 #include "type_names.h"
 
 #include <stdlib.h>

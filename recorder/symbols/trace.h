@@ -8,7 +8,7 @@
 #include <stdio.h>
 
 #include "declarations.h"
-#include "ignored.h"
+#include "ignored_types.h"
 #include "sites.h"
 #include "types.h"
 
@@ -17,7 +17,7 @@ struct making {
     const struct stream *stream;
     const struct declared *declared;
     const struct types *types;
-    const struct ignored *ignored;
+    const struct ignored_types *ignored;
     struct sites *sites;
     size_t frames;  /* so many of a stack are wanted; with 1 none */
     bool is_learnt; /* its orders are: callers are noted also where no frames are wanted */

@@ -1,10 +1,10 @@
 #include "type_names.h"
 
+#include "allocation.h"
 #include "files.h"
 #include "function_names.h"
 #include "lasting_variables.h"
 #include "lock_names.h"
-#include "allocation.h"
 #include "sites.h"
 #include "source_names.h"
 #include "steps.h"

@@ -1,10 +1,10 @@
 #include "types.h"
 
+#include "allocation.h"
 #include "label.h"
 #include "lasting_variables.h"
 #include "lock_names.h"
 #include "map.h"
-#include "allocation.h"
 #include "sites.h"
 #include "source_names.h"
 #include "steps.h"

@@ -1,7 +1,7 @@
 #include "variables.h"
 
-#include "debug_types.h"
 #include "allocation.h"
+#include "debug_types.h"
 #include "files.h"
 #include "source_names.h"
 

@@ -1,13 +1,13 @@
 #include "verifier_lines.h"
 
+#include "allocation.h"
 #include "format.h"
 #include "frames.h"
 #include "map.h"
-#include "allocation.h"
-#include "stream_locks.h"
 #include "place_words.h"
 #include "progress.h"
 #include "source_names.h"
+#include "stream_locks.h"
 #include "texts.h"
 
 #include <inttypes.h>

@@ -8,8 +8,8 @@ build_driver() {
     compiler=$1
     folder=$2
     shift 2
-    sources=$(source_of alarms child_words describe document escape files findings hang json json_place line map allocation notes ignored lock_pairs json_writer process_orders pictures place \
-        place_words report schedule single source_names sources texts verdict)
+    sources=$(source_of alarms child_words describe document escape files hang json json_place line map allocation notes ignored_types lock_pairs json_writer process_orders pictures site_parts \
+        place_words report run_reports schedule single source_names sources texts verdict)
     mkdir -p "$folder" && (cd "$folder" && in_folders "$compiler" -std=c11 -D_GNU_SOURCE -g -Wall -Wextra -Werror \
         "$@" -o driver "$here/outputs/driver.c" $sources)
 }

@@ -4,8 +4,8 @@
 compile_resolved() {
     in_folders "${CC:-cc}" -std=c11 -D_GNU_SOURCE -g -O1 -fsanitize=address,undefined -fno-sanitize-recover=undefined \
         -Wall -Wextra -Werror -o resolved "$here/resolved.c" \
-        $(source_of allocation columns files texts map line source_names demangle symbols stream_file notes declarations sites frames types ignore trace verifier_lines stream_locks lock_pairs ignored single \
-            progress place object_file source_lines source_text lock_expression call_words call_choice lasting_variables type_names \
+        $(source_of allocation columns files texts map line source_names demangle symbols stream_file notes declarations sites frames types ignore_file trace verifier_lines stream_locks lock_pairs ignored_types single \
+            progress site_parts object_file source_lines source_text lock_expression call_words call_choice lasting_variables type_names \
             function_names place_words fields right_orders right_requests \
             libdw debug_frames debug_info debug_units debug_types scopes expression_values members variables lock_names steps lasting_names resolve) -ldl
 }

@@ -96,20 +96,29 @@ if wanted apart; then
     recorded_by "$record" -- ./apart none "$work/none.so"
     last_is 'record: nothing to report'
     tell apart "no library of that name" $?
+    compile byhandle
+    for library in libc.so.6 libpthread.so.0; do
+        recorded_by "$record" -- ./byhandle $library
+        last_is "record: nothing in what was recorded; not seen: locks of byhandle (see record(1))" && ! grep -q 'clean:' recorded.err
+        tell apart "a call that dlsym finds by a handle of $library" $?
+    done
+    recorded_by "$record" -- ./byhandle program
+    said 0 '^record: 1 report, 0 circles, 1 process$'
+    tell apart "a call that dlsym finds by a handle of the program" $?
 fi
 
 # A reader that reads again, and a writer that waits in between.
 if wanted reread; then
     compile reread
     recorded_by "$record" -- ./reread writers
-    said 0 'a lock was read again by a thread that read it, and a writer that waits in between stops both: "lock" @ reread.c:15' &&
+    said 0 'a lock was read again by a thread that read it, and a writer that waits in between stops both: "lock" @ reread.c:23' &&
         last_is 'record: nothing to report but 1 error' &&
         grep -q '^record: not clean: reread: a thread read a lock again that it read' recorded.err
     tell reread "a lock that prefers writers" $?
     recorded_by "$record" --alarms no-errors --error-exitcode 7 -- ./reread writers
     said 0 '^record: not clean: ' && ! grep -q '^record: clean' recorded.err
     tell reread "where errors aren't told" $?
-    for kind in readers default; do
+    for kind in readers default written; do
         recorded_by "$record" -- ./reread $kind
         said 0 "^$clean\$" && last_is 'record: nothing to report'
         tell reread "$kind" $?

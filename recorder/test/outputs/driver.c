@@ -21,14 +21,14 @@
 #include <string.h>
 
 #include "document.h"
-#include "findings.h"
+#include "run_reports.h"
 #include "json.h"
 #include "allocation.h"
 #include "pictures.h"
 
 enum { FIELDS = 40 };
 
-static struct findings findings;
+static struct run_reports gathered;
 static struct reports *telling; /* where reports are added */
 
 /* \xHH as its byte, in place. */
@@ -55,7 +55,7 @@ static const char *known(const char *field)
 
 static struct found *last(void)
 {
-    return &findings.found[findings.count - 1];
+    return &gathered.found[gathered.count - 1];
 }
 
 static void end_reports(struct reports *reports)
@@ -67,7 +67,7 @@ static void end_reports(struct reports *reports)
 
 static void end_process(void)
 {
-    if (findings.count == 0)
+    if (gathered.count == 0)
         return;
     end_reports(&last()->reports);
     end_reports(&last()->ignored);
@@ -76,7 +76,7 @@ static void end_process(void)
 static void begin_process(char **field)
 {
     end_process();
-    struct found *found = findings_add(&findings, field[1], atol(field[0]));
+    struct found *found = run_reports_add(&gathered, field[1], atol(field[0]));
     found->reports.notes = found->ignored.notes = &found->notes;
     found->notes.has_callers = true;
     telling = &found->reports;
@@ -167,25 +167,25 @@ static bool read_of_process(const char *word, char **field, size_t fields)
 static bool read_line(const char *word, char **field, size_t fields)
 {
     if (!strcmp(word, "program"))
-        findings.program = copy(field[0]);
+        gathered.program = copy(field[0]);
     else if (!strcmp(word, "directory"))
-        findings.directory = copy(field[0]);
+        gathered.directory = copy(field[0]);
     else if (!strcmp(word, "ignore"))
-        findings.ignore = copy(field[0]);
+        gathered.ignore = copy(field[0]);
     else if (!strcmp(word, "words"))
-        findings.words = copy(field[0]);
+        gathered.words = copy(field[0]);
     else if (!strcmp(word, "kit"))
-        findings.kit = copy(field[0]);
+        gathered.kit = copy(field[0]);
     else if (!strcmp(word, "version"))
-        findings.version = copy(field[0]);
+        gathered.version = copy(field[0]);
     else if (!strcmp(word, "built"))
-        findings.built = atol(field[0]);
+        gathered.built = atol(field[0]);
     else if (!strcmp(word, "say"))
-        findings_tell(&findings, 0, field[0]);
+        run_reports_tell(&gathered, 0, field[0]);
     else if (!strcmp(word, "process"))
         begin_process(field);
     else
-        return findings.count > 0 && read_of_process(word, field, fields);
+        return gathered.count > 0 && read_of_process(word, field, fields);
     return true;
 }
 
@@ -209,7 +209,7 @@ static bool read_case(FILE *from)
     }
     free(line);
     end_process();
-    findings_gather(&findings);
+    run_reports_gather(&gathered);
     return true;
 }
 
@@ -221,10 +221,10 @@ int main(int count, char **words)
     fclose(from);
     size_t length = 0;
     const char *witness = getenv("WITNESS");
-    char *report = document_report(&findings, &length);
+    char *report = document_report(&gathered, &length);
     if (!strcmp(words[1], "pictures"))
-        pictures_draw(&findings, witness ? witness : "witness", report, length);
+        pictures_draw(&gathered, witness ? witness : "witness", report, length);
     free(report);
-    json_write(stdout, &findings);
+    json_write(stdout, &gathered);
     return 0;
 }

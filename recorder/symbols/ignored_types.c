@@ -1,17 +1,17 @@
-#include "ignored.h"
+#include "ignored_types.h"
 
 #include <stdlib.h>
 #include <string.h>
 
 #include "allocation.h"
 
-void ignored_end(struct ignored *ignored)
+void ignored_types_end(struct ignored_types *ignored)
 {
     map_end(&ignored->names);
     map_end(&ignored->known);
     free(ignored->pair);
     texts_end(ignored->texts);
-    *ignored = (struct ignored){0};
+    *ignored = (struct ignored_types){0};
 }
 
 /* Both names, in whichever order they come: a text of one's own. */
@@ -20,7 +20,7 @@ static char *either(const char *one, const char *other)
     return strcmp(one, other) < 0 ? say_text("%s\n%s", one, other) : say_text("%s\n%s", other, one);
 }
 
-enum ignored_cause why_ignored(const struct ignored *ignored, const char *held, const char *asked)
+enum ignored_cause why_ignored(const struct ignored_types *ignored, const char *held, const char *asked)
 {
     if (strcmp(held, asked) == 0)
         return (enum ignored_cause)map_find_text(&ignored->names, held);
@@ -32,14 +32,14 @@ enum ignored_cause why_ignored(const struct ignored *ignored, const char *held, 
     return number ? ignored->pair[number - 1].cause : NOT_IGNORED;
 }
 
-void ignored_add_type(struct ignored *ignored, const char *name, enum ignored_cause cause)
+void ignored_add_type(struct ignored_types *ignored, const char *name, enum ignored_cause cause)
 {
     size_t *known = map_add_text(&ignored->names, name);
     if (*known == NOT_IGNORED)
         *known = cause;
 }
 
-void ignored_add_pair(struct ignored *ignored, const char *first, const char *second, enum ignored_cause cause)
+void ignored_add_pair(struct ignored_types *ignored, const char *first, const char *second, enum ignored_cause cause)
 {
     char *names = either(first, second);
     size_t *number = map_add_text(&ignored->known, names);

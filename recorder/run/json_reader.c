@@ -1,4 +1,4 @@
-#include "json_read.h"
+#include "json_reader.h"
 
 #include <stdbool.h>
 #include <stdlib.h>

@@ -1,8 +1,8 @@
 /*
  * What `witness forecast` answers of a trace of errands (errand_trace.h), read back: whose step each line is.
  */
-#ifndef RECORD_SCHEDULE_READ_H
-#define RECORD_SCHEDULE_READ_H
+#ifndef RECORD_FORECAST_ANSWER_H
+#define RECORD_FORECAST_ANSWER_H
 
 #include "errand_trace.h"
 #include "schedules.h"

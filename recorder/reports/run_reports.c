@@ -1,4 +1,4 @@
-#include "findings.h"
+#include "run_reports.h"
 
 #include <inttypes.h>
 #include <stdint.h>
@@ -8,20 +8,20 @@
 
 #include "allocation.h"
 
-struct found *findings_add(struct findings *findings, const char *program, long process)
+struct found *run_reports_add(struct run_reports *gathered, const char *program, long process)
 {
-    struct found *found = &ADD(findings->found, findings->count, findings->found_room);
+    struct found *found = &ADD(gathered->found, gathered->count, gathered->found_room);
     *found = (struct found){.program = copy(program), .process = process};
     return found;
 }
 
-void findings_tell(struct findings *findings, long process, const char *line)
+void run_reports_tell(struct run_reports *gathered, long process, const char *line)
 {
     static const char head[] = "record: ";
     line += strncmp(line, head, sizeof head - 1) == 0 ? sizeof head - 1 : 0;
-    ADD(findings->told, findings->tolds, findings->told_room) =
+    ADD(gathered->told, gathered->tolds, gathered->told_room) =
         process ? say_text("process %ld: %s", process, line) : copy(line);
-    findings->summary = findings->told[findings->tolds - 1];
+    gathered->summary = gathered->told[gathered->tolds - 1];
 }
 
 /* FNV-1a, with an end after each text. */
@@ -91,15 +91,15 @@ static uint64_t hash_line(const struct report *report, const struct report_line 
 }
 
 /* The kind, the types, and the functions: no lines, no numbers of threads. A circle may begin with any of its threads. */
-static void make_fingerprint(struct finding *finding)
+static void make_fingerprint(struct run_report *entry)
 {
-    const struct report *report = finding->report;
-    const struct notes *notes = &finding->found->notes;
+    const struct report *report = entry->report;
+    const struct notes *notes = &entry->found->notes;
     bool is_circle = report->kind == REPORT_CIRCLE;
     uint64_t hash = (uint64_t)report->kind + 1;
     for (size_t i = 0; i < report->lines; i++)
         hash = (is_circle ? hash : hash * 0x9e3779b97f4a7c15u) + hash_line(report, &report->line[i], notes);
-    snprintf(finding->fingerprint, sizeof finding->fingerprint, "%016" PRIx64, hash);
+    snprintf(entry->fingerprint, sizeof entry->fingerprint, "%016" PRIx64, hash);
 }
 
 static bool are_equal(const struct report *one, const struct report *other)
@@ -110,55 +110,55 @@ static bool are_equal(const struct report *one, const struct report *other)
     return is_equal;
 }
 
-static struct finding *find_equal(struct findings *findings, const struct report *report, bool is_ignored)
+static struct run_report *find_equal(struct run_reports *gathered, const struct report *report, bool is_ignored)
 {
-    for (size_t i = 0; i < findings->findings; i++)
-        if (findings->finding[i].is_ignored == is_ignored && are_equal(findings->finding[i].report, report))
-            return &findings->finding[i];
+    for (size_t i = 0; i < gathered->reports; i++)
+        if (gathered->report[i].is_ignored == is_ignored && are_equal(gathered->report[i].report, report))
+            return &gathered->report[i];
     return NULL;
 }
 
 /* A process may have taken single locks both ways where another one hasn't. */
-static void grade(struct finding *finding, const struct alarm *alarm, const struct schedule *schedule)
+static void grade(struct run_report *entry, const struct alarm *alarm, const struct schedule *schedule)
 {
-    if (finding->single && alarm_mildness(alarm) >= alarm_mildness(&finding->alarm))
+    if (entry->single && alarm_mildness(alarm) >= alarm_mildness(&entry->alarm))
         return;
-    free(finding->single);
-    finding->alarm = *alarm;
-    finding->schedule = schedule;
-    finding->single = alarm_text(alarm);
+    free(entry->single);
+    entry->alarm = *alarm;
+    entry->schedule = schedule;
+    entry->single = alarm_text(alarm);
 }
 
-static void gather(struct findings *findings, const struct found *found, const struct reports *reports, bool is_ignored)
+static void gather(struct run_reports *gathered, const struct found *found, const struct reports *reports, bool is_ignored)
 {
     for (size_t i = 0; i < reports->count; i++) {
         const struct report *report = &reports->report[i];
-        struct finding *finding = find_equal(findings, report, is_ignored);
-        if (!finding) {
-            finding = &ADD(findings->finding, findings->findings, findings->finding_room);
-            *finding = (struct finding){.found = found, .report = report, .is_ignored = is_ignored};
-            make_fingerprint(finding);
+        struct run_report *entry = find_equal(gathered, report, is_ignored);
+        if (!entry) {
+            entry = &ADD(gathered->report, gathered->reports, gathered->report_room);
+            *entry = (struct run_report){.found = found, .report = report, .is_ignored = is_ignored};
+            make_fingerprint(entry);
         }
-        grade(finding, &report->alarm, report->schedule);
-        finding->counts = !is_ignored && alarm_counts(&findings->alarms, &finding->alarm);
-        if (finding->processes == 0 || finding->process[finding->processes - 1] != found->process)
-            ADD(finding->process, finding->processes, finding->room) = found->process;
+        grade(entry, &report->alarm, report->schedule);
+        entry->counts = !is_ignored && alarm_counts(&gathered->alarms, &entry->alarm);
+        if (entry->processes == 0 || entry->process[entry->processes - 1] != found->process)
+            ADD(entry->process, entry->processes, entry->room) = found->process;
     }
 }
 
-void findings_gather(struct findings *findings)
+void run_reports_gather(struct run_reports *gathered)
 {
-    if (findings->is_gathered)
+    if (gathered->is_gathered)
         return;
-    findings->is_gathered = true;
-    for (size_t i = 0; i < findings->count; i++) {
-        struct found *found = &findings->found[i];
+    gathered->is_gathered = true;
+    for (size_t i = 0; i < gathered->count; i++) {
+        struct found *found = &gathered->found[i];
         found->reports.notes = &found->notes;
         found->ignored.notes = &found->notes;
-        gather(findings, found, &found->reports, false);
+        gather(gathered, found, &found->reports, false);
     }
-    for (size_t i = 0; i < findings->count; i++)
-        gather(findings, &findings->found[i], &findings->found[i].ignored, true);
+    for (size_t i = 0; i < gathered->count; i++)
+        gather(gathered, &gathered->found[i], &gathered->found[i].ignored, true);
 }
 
 static int by_thread(const void *left, const void *right)
@@ -186,10 +186,10 @@ const struct event **found_threads(const struct found *found, size_t *count)
     return thread;
 }
 
-void findings_end(struct findings *findings)
+void run_reports_end(struct run_reports *gathered)
 {
-    for (size_t i = 0; i < findings->count; i++) {
-        struct found *found = &findings->found[i];
+    for (size_t i = 0; i < gathered->count; i++) {
+        struct found *found = &gathered->found[i];
         reports_end(&found->reports);
         reports_end(&found->ignored);
         notes_end(&found->notes);
@@ -197,16 +197,16 @@ void findings_end(struct findings *findings)
         free(found->program);
         free(found->picture);
     }
-    for (size_t i = 0; i < findings->tolds; i++)
-        free(findings->told[i]);
-    for (size_t i = 0; i < findings->findings; i++) {
-        free(findings->finding[i].process);
-        free(findings->finding[i].single);
-        free(findings->finding[i].picture);
-        confirmed_end(findings->finding[i].confirmed);
+    for (size_t i = 0; i < gathered->tolds; i++)
+        free(gathered->told[i]);
+    for (size_t i = 0; i < gathered->reports; i++) {
+        free(gathered->report[i].process);
+        free(gathered->report[i].single);
+        free(gathered->report[i].picture);
+        confirmed_end(gathered->report[i].confirmed);
     }
-    free(findings->finding);
-    free(findings->found);
-    free(findings->told);
-    *findings = (struct findings){0};
+    free(gathered->report);
+    free(gathered->found);
+    free(gathered->told);
+    *gathered = (struct run_reports){0};
 }

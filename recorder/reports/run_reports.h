@@ -1,8 +1,8 @@
 /*
  * What a run has shown, for json.h, which writes it.
  */
-#ifndef RECORD_FINDINGS_H
-#define RECORD_FINDINGS_H
+#ifndef RECORD_RUN_REPORTS_H
+#define RECORD_RUN_REPORTS_H
 
 #include <stdbool.h>
 #include <stddef.h>
@@ -27,7 +27,7 @@ struct found {
 };
 
 /* A report, told once for all processes that have it. */
-struct finding {
+struct run_report {
     const struct found *found; /* the first of them */
     const struct report *report;
     bool is_ignored;
@@ -42,7 +42,7 @@ struct finding {
     char *picture;                   /* of its orders, as SVG; NULL where none is drawn */
 };
 
-struct findings {
+struct run_reports {
     const char *command;         /* that tells it; NULL is `record` */
     const char *version;         /* of `record`; NULL where that isn't known */
     const char *kit;             /* by which the verifier is proved; NULL where that isn't known */
@@ -60,22 +60,22 @@ struct findings {
     size_t tolds, told_room;
     char *summary;    /* the last of them */
     bool is_gathered; /* the list is there */
-    struct finding *finding;
-    size_t findings, finding_room;
+    struct run_report *report;
+    size_t reports, report_room;
 };
 
 /* A further process, which the caller fills. */
-struct found *findings_add(struct findings *findings, const char *program, long process);
+struct found *run_reports_add(struct run_reports *gathered, const char *program, long process);
 
 /* A line that was told, of that process; 0 where it is of the whole run. What it begins with, `record: `, is left out. */
-void findings_tell(struct findings *findings, long process, const char *line);
+void run_reports_tell(struct run_reports *gathered, long process, const char *line);
 
-/* When all are there: makes the list of findings, equal ones as one, once. Those that are ignored come last. */
-void findings_gather(struct findings *findings);
+/* When all are there: makes the list of reports, equal ones as one, once. Those that are ignored come last. */
+void run_reports_gather(struct run_reports *gathered);
 
 /* The threads that are known of the process, each once: a list of one's own. */
 const struct event **found_threads(const struct found *found, size_t *count);
 
-void findings_end(struct findings *findings);
+void run_reports_end(struct run_reports *gathered);
 
 #endif

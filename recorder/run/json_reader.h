@@ -1,8 +1,8 @@
 /*
  * Reads JSON, as `record --json` writes it: numbers have no more digits than a long long has.
  */
-#ifndef RECORD_JSON_READ_H
-#define RECORD_JSON_READ_H
+#ifndef RECORD_JSON_READER_H
+#define RECORD_JSON_READER_H
 
 #include "texts.h"
 

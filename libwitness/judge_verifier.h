@@ -1,12 +1,12 @@
 /* What the library's files share of the verifier (judge.c). All of it is under the recorder's mutex. */
-#ifndef WITNESS_JUDGE_PLACE_H
-#define WITNESS_JUDGE_PLACE_H
+#ifndef WITNESS_JUDGE_VERIFIER_H
+#define WITNESS_JUDGE_VERIFIER_H
 
 #include "recorder.h"
 #include "verifier.h"
 
 /* The verifier, NULL where nothing is judged any more. */
-struct wit_place *judged_place(void);
+struct wit_place *judge_verifier(void);
 
 /* The class that a lock has with the verifier; and the number in its type (names.h) of the lock with that number. */
 uint8_t judged_class(const struct lock *lock);

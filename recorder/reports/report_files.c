@@ -1,15 +1,15 @@
-#include "findings_run.h"
+#include "report_files.h"
 
 #include <stdio.h>
 #include <stdlib.h>
 #include <string.h>
 
+#include "allocation.h"
 #include "confirm.h"
 #include "document.h"
 #include "error_words.h"
 #include "grades.h"
 #include "graph.h"
-#include "allocation.h"
 #include "output_files.h"
 #include "pictures.h"
 #include "steering_plan.h"
@@ -21,7 +21,7 @@ static bool is_report_wanted(const struct settings *settings)
     return is_asked(settings->html) || is_asked(settings->sarif) || is_asked(settings->json) || is_asked(settings->graph);
 }
 
-bool findings_are_wanted(const struct settings *settings)
+bool report_files_are_wanted(const struct settings *settings)
 {
     return is_report_wanted(settings) || confirm_is_wanted(settings);
 }
@@ -29,31 +29,31 @@ bool findings_are_wanted(const struct settings *settings)
 /* Lines that are told, each by itself. */
 static void hear(void *by, long speaker, const char *text, size_t length)
 {
-    struct findings *findings = by;
+    struct run_reports *gathered = by;
     const char *end = text + length;
     while (text < end) {
         const char *after = memchr(text, '\n', (size_t)(end - text));
         char *line = copy_bytes(text, (size_t)((after ? after : end) - text));
-        findings_tell(findings, speaker, line);
+        run_reports_tell(gathered, speaker, line);
         free(line);
         text = after ? after + 1 : end;
     }
 }
 
-void findings_begin(struct run *run)
+void report_files_begin(struct run *run)
 {
-    if (!findings_are_wanted(&run->settings))
+    if (!report_files_are_wanted(&run->settings))
         return;
-    run->findings.version = WITNESS_VERSION;
-    run->findings.kit = WITNESS_KIT;
-    run->findings.words = is_asked(run->settings.words) ? run->settings.words : NULL;
-    run->findings.program = run->settings.program;
-    run->findings.directory = is_asked(run->settings.directory) ? run->settings.directory : NULL;
-    run->findings.ignore = run->settings.ignore;
-    run->findings.built = run->settings.built;
-    run->findings.alarms = run->alarms_wanted;
+    run->gathered.version = WITNESS_VERSION;
+    run->gathered.kit = WITNESS_KIT;
+    run->gathered.words = is_asked(run->settings.words) ? run->settings.words : NULL;
+    run->gathered.program = run->settings.program;
+    run->gathered.directory = is_asked(run->settings.directory) ? run->settings.directory : NULL;
+    run->gathered.ignore = run->settings.ignore;
+    run->gathered.built = run->settings.built;
+    run->gathered.alarms = run->alarms_wanted;
     run->output.hear = hear;
-    run->output.by = &run->findings;
+    run->output.by = &run->gathered;
 }
 
 /* Errors in the use of locks are reports with one place. */
@@ -72,12 +72,12 @@ static void take_errors(struct found *found)
     }
 }
 
-void findings_take(struct process *process)
+void report_files_take(struct process *process)
 {
     struct run *run = process->run;
-    if (!findings_are_wanted(&run->settings))
+    if (!report_files_are_wanted(&run->settings))
         return;
-    struct found *found = findings_add(&run->findings, process->name, process->recording->process);
+    struct found *found = run_reports_add(&run->gathered, process->name, process->recording->process);
     orders_read(process, &found->orders);
     found->has_orders = process->state.is_whole;
     if (confirm_is_wanted(&run->settings))
@@ -131,34 +131,34 @@ static void draw_graphs(struct run *run, const char *report, size_t length)
 {
     const struct settings *settings = &run->settings;
     char *failed = is_asked(settings->graph)
-        ? graphs_draw(settings->graph, settings->witness, &run->findings, report, length)
+        ? graphs_draw(settings->graph, settings->witness, &run->gathered, report, length)
         : NULL;
     if (failed)
         say(&run->output, "%s: the orders aren't drawn", failed);
     free(failed);
 }
 
-void findings_finish(struct run *run)
+void report_files_write(struct run *run)
 {
     const struct settings *settings = &run->settings;
     size_t length = 0;
-    if (!findings_are_wanted(settings))
+    if (!report_files_are_wanted(settings))
         return;
     run->output.hear = NULL;
-    run->findings.ended = time(NULL);
-    run->findings.has_failed = run->unknown;
-    findings_gather(&run->findings);
-    char *report = is_report_wanted(settings) ? document_report(&run->findings, &length) : NULL;
+    run->gathered.ended = time(NULL);
+    run->gathered.has_failed = run->unknown;
+    run_reports_gather(&run->gathered);
+    char *report = is_report_wanted(settings) ? document_report(&run->gathered, &length) : NULL;
     write_document(run, settings->sarif, "sarif", report, length);
     write_report(run, report, length);
     draw_graphs(run, report, length);
     if (is_asked(settings->html)) {
         /* The pictures stand in the page alone. */
-        pictures_draw(&run->findings, settings->witness, report, length);
+        pictures_draw(&run->gathered, settings->witness, report, length);
         free(report);
-        report = document_report(&run->findings, &length);
+        report = document_report(&run->gathered, &length);
         write_document(run, settings->html, "html", report, length);
     }
     free(report);
-    findings_end(&run->findings);
+    run_reports_end(&run->gathered);
 }

@@ -1,8 +1,8 @@
 /*
  * Files of orders, given to `witness orders`, which alone reads them.
  */
-#ifndef RECORD_ORDERS_ASKED_H
-#define RECORD_ORDERS_ASKED_H
+#ifndef RECORD_ORDERS_QUESTION_H
+#define RECORD_ORDERS_QUESTION_H
 
 #include "verdict.h"
 
@@ -12,7 +12,7 @@ struct orders_part {
     unsigned long before; /* lines that were given before them */
 };
 
-struct orders_asked {
+struct orders_question {
     const char *witness;
     struct verdict verdict;
     FILE *answer;
@@ -30,17 +30,17 @@ struct orders_asked {
 };
 
 /* Begins `witness orders WORD`, with a number after it unless that is NULL. */
-void asked_begin(struct orders_asked *asked, const char *witness, const char *word, const char *number);
+void question_begin(struct orders_question *question, const char *witness, const char *word, const char *number);
 
 /* Gives a file, and how often each of its orders was met where FILE.runs stands beside it. */
-void asked_file(struct orders_asked *asked, const char *path);
+void question_file(struct orders_question *question, const char *path);
 
 /* Gives a line without its newline. */
-void asked_line(struct orders_asked *asked, const char *line);
+void question_line(struct orders_question *question, const char *line);
 
 /* Waits for the answer. Why there is none, as a text of one's own; NULL where there is. */
-char *asked_answer(struct orders_asked *asked);
+char *question_answer(struct orders_question *question);
 
-void asked_end(struct orders_asked *asked);
+void question_end(struct orders_question *question);
 
 #endif

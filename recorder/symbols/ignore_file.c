@@ -1,4 +1,4 @@
-#include "ignore.h"
+#include "ignore_file.h"
 
 #include "allocation.h"
 #include "type_names.h"
@@ -28,7 +28,7 @@ static char *quoted(const char **at)
 }
 
 /* False where the line is none of such a file. What it names is taken all the same. */
-static bool read_line(struct ignore *ignore, const char *line, unsigned long number)
+static bool read_line(struct ignore_file *ignore, const char *line, unsigned long number)
 {
     if (*line == '#' || line[strspn(line, " \t")] == '\0')
         return true;
@@ -40,7 +40,7 @@ static bool read_line(struct ignore *ignore, const char *line, unsigned long num
     if (blanks > 0)
         second = quoted(&line);
     if (second) {
-        ADD(ignore->pair, ignore->pairs, ignore->pair_room) = (struct ignored_pair){first, second, number};
+        ADD(ignore->pair, ignore->pairs, ignore->pair_room) = (struct ignore_pair){first, second, number};
     } else if (first) {
         *map_add_text(&ignore->single, first) = number;
         free(first);
@@ -49,9 +49,9 @@ static bool read_line(struct ignore *ignore, const char *line, unsigned long num
     return is_named && (*line == '\0' || *line == '#');
 }
 
-unsigned long ignore_read(struct ignore *ignore, const char *path)
+unsigned long ignore_file_read(struct ignore_file *ignore, const char *path)
 {
-    *ignore = (struct ignore){0};
+    *ignore = (struct ignore_file){0};
     char *line = NULL;
     size_t room = 0;
     unsigned long bad = 0;
@@ -71,7 +71,7 @@ unsigned long ignore_read(struct ignore *ignore, const char *path)
     return bad;
 }
 
-void ignore_end(struct ignore *ignore)
+void ignore_file_end(struct ignore_file *ignore)
 {
     for (size_t i = 0; i < ignore->lines; i++)
         free(ignore->line[i].text);
@@ -82,7 +82,7 @@ void ignore_end(struct ignore *ignore)
     }
     free(ignore->pair);
     map_end(&ignore->single);
-    *ignore = (struct ignore){0};
+    *ignore = (struct ignore_file){0};
 }
 
 static void note_match(struct notes *notes, unsigned long line)
@@ -94,7 +94,7 @@ static void note_match(struct notes *notes, unsigned long line)
 }
 
 /* The word stands for the name, too. */
-static void call(struct called *called, const struct ignore *ignore, struct notes *notes, const char *word,
+static void call(struct called *called, const struct ignore_file *ignore, struct notes *notes, const char *word,
     const char *name)
 {
     size_t *number = map_add_text(&called->words, word), line = map_find_text(&ignore->single, word);
@@ -117,7 +117,7 @@ static const struct names *names_of(const struct called *called, const char *wor
 }
 
 /* All pairs of types that the two words of a line stand for. */
-static void ignore_pair(const struct called *called, const struct ignored_pair *pair, struct notes *notes)
+static void ignore_pair(const struct called *called, const struct ignore_pair *pair, struct notes *notes)
 {
     const struct names *first = names_of(called, pair->first), *second = names_of(called, pair->second);
     if (!first || !second)
@@ -161,7 +161,7 @@ static char *without_numbers(const char *name)
  * All that the user may call the type: its name, that by lines, those that last, and the functions of its places. Of types
  * that are one each has its own functions and lines, and all stand for the first of them.
  */
-static void call_type(struct called *called, const struct ignore *ignore, struct notes *notes,
+static void call_type(struct called *called, const struct ignore_file *ignore, struct notes *notes,
     const struct named_type *type, bool is_first)
 {
     char *plain = is_first ? without_numbers(type->lasting.name) : copy(""), cut[TRACE_NAME_MOST + 1];
@@ -180,10 +180,10 @@ static void call_type(struct called *called, const struct ignore *ignore, struct
     free(plain);
 }
 
-void ignored_begin(struct notes *notes, const struct ignore *ignore, const struct types *types)
+void ignore_file_note(struct notes *notes, const struct ignore_file *ignore, const struct types *types)
 {
     struct called called = {0};
-    ignored_end(&notes->ignored);
+    ignored_types_end(&notes->ignored);
     notes->aliases = notes->matches = 0;
     for (uint32_t number = 1; number < types->count; number++) {
         const struct named_type *type = &types->type[number];

@@ -1,10 +1,10 @@
-#include "schedule_read.h"
+#include "forecast_answer.h"
 
 #include <stdlib.h>
 #include <string.h>
 
-#include "line.h"
 #include "allocation.h"
+#include "line.h"
 #include "schedule.h"
 #include "schedule_rows.h"
 

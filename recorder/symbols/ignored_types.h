@@ -1,10 +1,9 @@
 /*
  * What isn't told of the types of a process: what the user wants to be left in ignored, and what is right in a library.
  */
-#ifndef RECORD_IGNORED_H
-#define RECORD_IGNORED_H
+#ifndef RECORD_IGNORED_TYPES_H
+#define RECORD_IGNORED_TYPES_H
 
-#include <stdbool.h>
 #include <stddef.h>
 
 #include "map.h"
@@ -20,7 +19,7 @@ struct ignored_names {
 };
 
 /* A new struct is all zeroes. */
-struct ignored {
+struct ignored_types {
     struct map names;           /* types of which a thread may take several locks: the cause of each */
     struct map known;           /* pairs by their names: numbers in the list, from 1 on */
     struct ignored_names *pair; /* each once */
@@ -28,13 +27,13 @@ struct ignored {
     struct texts *texts;
 };
 
-void ignored_end(struct ignored *ignored);
+void ignored_types_end(struct ignored_types *ignored);
 
 /* Unless these are known: a type of which several may be taken; types, of different names, for either order. */
-void ignored_add_type(struct ignored *ignored, const char *name, enum ignored_cause cause);
-void ignored_add_pair(struct ignored *ignored, const char *first, const char *second, enum ignored_cause cause);
+void ignored_add_type(struct ignored_types *ignored, const char *name, enum ignored_cause cause);
+void ignored_add_pair(struct ignored_types *ignored, const char *first, const char *second, enum ignored_cause cause);
 
 /* Why nothing is told of a request for a lock of one type while one of the other is held. */
-enum ignored_cause why_ignored(const struct ignored *ignored, const char *held, const char *asked);
+enum ignored_cause why_ignored(const struct ignored_types *ignored, const char *held, const char *asked);
 
 #endif
