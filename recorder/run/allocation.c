@@ -1,5 +1,6 @@
 #include "allocation.h"
 
+#include <malloc.h>
 #include <stdarg.h>
 #include <stdio.h>
 #include <stdlib.h>
@@ -17,6 +18,11 @@ static void *there(void *memory)
     _exit(126);
 }
 
+void allocation_begins(void)
+{
+    mallopt(M_MMAP_THRESHOLD, 1 << 17);
+}
+
 void *take(size_t bytes)
 {
     return there(calloc(1, bytes ? bytes : 1));
@@ -25,6 +31,15 @@ void *take(size_t bytes)
 void *grow(void *old, size_t count, size_t size)
 {
     return there(reallocarray(old, count ? count : 1, size));
+}
+
+void *grow_zeroed(void *old, size_t had, size_t count, size_t size)
+{
+    void *list = there(calloc(count ? count : 1, size));
+    if (had > 0)
+        memcpy(list, old, had * size);
+    free(old);
+    return list;
 }
 
 char *copy_bytes(const char *bytes, size_t length)

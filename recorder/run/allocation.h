@@ -6,9 +6,13 @@
 
 #include <stddef.h>
 
+/* Large memory of zeroes is the kernel's each time, so that what isn't touched takes nothing. */
+void allocation_begins(void);
 void *take(size_t bytes);                         /* all zeroes */
 void *grow(void *old, size_t count, size_t size); /* as realloc, of `count` things of that size */
-char *copy(const char *text);                     /* a text of one's own */
+/* From `had` things to `count`, of which the new ones are all zeroes. */
+void *grow_zeroed(void *old, size_t had, size_t count, size_t size);
+char *copy(const char *text); /* a text of one's own */
 char *copy_bytes(const char *bytes, size_t length);
 /* As sprintf, into a text of one's own. */
 char *say_text(const char *format, ...) __attribute__((format(printf, 1, 2)));

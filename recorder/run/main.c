@@ -166,6 +166,7 @@ int main(int count, char **words)
         fputs("record: this is begun by the script recorder/record\n", stderr);
         return 2;
     }
+    allocation_begins();
     built = folder_of(words[0]);
     if (is_for_once(built))
         prepare_removes(work = built);

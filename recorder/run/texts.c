@@ -7,7 +7,7 @@
 #include <stdlib.h>
 #include <string.h>
 
-enum { PIECE_BYTES = 1 << 16, ALIGNMENT = 16 };
+enum { PIECE_BYTES = 1 << 13, ALIGNMENT = 16 };
 
 struct piece {
     struct piece *next;

@@ -26,8 +26,7 @@ static void *reach(void *list, size_t *count, size_t *room, uint32_t number, siz
         size_t wide = *room ? *room : 64;
         while (wide <= number)
             wide *= 2;
-        list = grow(list, wide, size);
-        memset((char *)list + *room * size, 0, (wide - *room) * size);
+        list = grow_zeroed(list, *room, wide, size);
         *room = wide;
     }
     if (number >= *count)

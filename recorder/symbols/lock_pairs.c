@@ -35,8 +35,7 @@ static struct pair_holder *holder_of(struct pairs_reading *reading, uint32_t sea
 {
     if (seat >= reading->seats) {
         size_t seats = (size_t)seat + 1;
-        reading->seat = grow(reading->seat, seats, sizeof *reading->seat);
-        memset(reading->seat + reading->seats, 0, (seats - reading->seats) * sizeof *reading->seat);
+        reading->seat = grow_zeroed(reading->seat, reading->seats, seats, sizeof *reading->seat);
         reading->seats = seats;
     }
     return &reading->seat[seat];

@@ -124,8 +124,7 @@ const char *site_of(struct sites *sites, uint32_t place)
     if (at == 0)
         return nowhere;
     if (at > sites->room) {
-        sites->site = grow(sites->site, declared->placed_room, sizeof *sites->site);
-        memset(sites->site + sites->room, 0, (declared->placed_room - sites->room) * sizeof *sites->site);
+        sites->site = grow_zeroed(sites->site, sites->room, declared->placed_room, sizeof *sites->site);
         sites->room = declared->placed_room;
     }
     if (!sites->site[at - 1])

@@ -14,8 +14,7 @@ static struct lock_count *count_of(struct lock_counts *counts, uint32_t number)
 {
     if (number >= counts->types) {
         size_t types = 2 * ((size_t)number + 1);
-        counts->of = grow(counts->of, types, sizeof *counts->of);
-        memset(counts->of + counts->types, 0, (types - counts->types) * sizeof *counts->of);
+        counts->of = grow_zeroed(counts->of, counts->types, types, sizeof *counts->of);
         counts->types = types;
     }
     return &counts->of[number];

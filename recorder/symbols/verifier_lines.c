@@ -404,8 +404,7 @@ static void note_sites(struct verifier_lines *writing)
     struct single *single = &writing->notes->single;
     size_t places = writing->making->declared->places;
     if (places > single->sites) {
-        single->site = grow(single->site, places, sizeof *single->site);
-        memset(single->site + single->sites, 0, (places - single->sites) * sizeof *single->site);
+        single->site = grow_zeroed(single->site, single->sites, places, sizeof *single->site);
         single->sites = places;
     }
     for (; writing->tellings < single->tellings; writing->tellings++)
