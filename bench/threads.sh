@@ -27,11 +27,18 @@ ghosts-run-J-Naming g a = record { list = a.opened.list }
 abbrev pub ghosts-run-J-Room : goal.ghosts-run-J-Room
 ghosts-run-J-Room g a = record { table = a.opened.table; start = a.opened.story.start }
 PROOF
+mkdir -p "$bench/proofs/hire"
+cat >"$bench/proofs/hire/Invariants.antt" <<'PROOF'
+use Rattle.std.proofs.Common.{◌≡◌, ◌≤◌, vec_len, vec_capacity}
+use Rattle.threads_bench.proofs.hire.Given as goal
+abbrev pub invariant-loop : goal.invariant-loop
+invariant-loop g l = (vec_len l.seats ≡ l.counter) × (4 ≤ vec_capacity l.seats)
+PROOF
 cat >"$bench/src/main.rt" <<'PROGRAM'
 //! How long calls through a shared verifier take, and locks that it watches.
 #![tactic(auto)]
 
-ghost use Rattle.std.specs.Prelude.{◌≡◌};
+ghost use Rattle.std.specs.Prelude.{◌≡◌, IfSome, length, vec_len};
 
 use bitflags::Flags;
 use std::alloc::Global;
@@ -44,7 +51,7 @@ use wit_core::Verifier;
 use wit_gates::{CondGate, Gate, SpinGate, Ticket};
 use wit_locks::{Mtx, abandon};
 use wit_model::{Class, FileNo, Limits, LockFlags, LockNo, Mode, OpFlags, SeatNo, Site, TypeNo};
-use wit_shared::{Observer, OpenedVerifier, Room, Seat, Shared};
+use wit_shared::{Observer, OpenedVerifier, Room, Seat, Shared, abandon_all};
 
 const TURNS: u32 = 83_333; // Of each of four threads: a turn is three calls.
 const CLASS: Class = Class::SleepMutex;
@@ -119,69 +126,146 @@ fn look<J: Room, R: Clock>(rt: &R, observer: &mut Observer<J>, looks: u32) -> Op
     nanoseconds(rt, start)
 }
 
-// Threads take turns while an observer looks: with a mutex over the gate, or each with its own.
-#[derive(Drop)]
-struct Bench<G> {
+// Over which gate all threads have a mutex; or each has its own.
+#[derive(Clone, Copy)]
+enum Over {
+    None,
+    Cond,
+    Spin,
+}
+
+// Threads take turns while an observer looks.
+#[derive(Clone, Copy)]
+struct Bench {
     what: &'static str,
     alloc: Global,
-    gate: Option<G>,
+    over: Over,
     threads: u32,
     turns: u32,
     looks: u32,
 }
 
-impl<G: Gate<Ticket = Ticket> + Drop + Send + Sync> Bench<G> {
-    // How long the turns and the looks took, and the seats.
-    fn measure<J: Room + Send + Sync, R: Threads + Wait + Clock + Sync>(
-        self,
-        rt: &R,
-        on: &Shared<J>,
-        mut observers: Vec<Observer<J>>,
-    ) -> Option<(u128, u128, Vec<Seat<J>>)> {
-        let (turns, looks, mut observer) = (self.turns, self.looks, observers.pop()?);
-        let mut seats = Vec::new(self.alloc);
-        for _ in 0..self.threads {
-            let mut seat = on.seat(rt).ok()?;
-            let _own = on.init(rt, &mut seat, "a", None, CLASS, LockFlags::empty()).ok()?;
-            seats.push(seat).ok()?;
+// The mutex of all threads.
+#[derive(Drop)]
+enum Common<J: Room> {
+    None,
+    Cond(Mtx<J, CondGate>),
+    Spin(Mtx<J, SpinGate>),
+}
+
+// Four seats.
+fn hire<J: Room, R: Wait>(rt: &R, alloc: Global, on: &Shared<J>) -> Option<Vec<Seat<J>>>
+    ensures { IfSome result (λ seats. vec_len seats ≡ 4) }
+{
+    let mut seats = Vec::with_capacity(alloc, 4).ok()?;
+    for _ in 0..4usize {
+        match on.seat(rt) {
+            Ok(seat) => seats.push_reserved(seat),
+            Err(_) => {
+                abandon_all(seats);
+                return None;
+            }
         }
-        let mut mutex = None;
-        if let Some(gate) = self.gate {
-            let seat = seats.first_mut()?;
-            mutex = Some(Mtx::new(rt, on, seat, "m", None, LockFlags::empty(), gate).ok()?);
-        }
-        let work = |_, seat: &mut Seat<J>| {
-            let _done = match &mutex {
-                Some(mutex) => take(rt, on, seat, mutex),
-                None => turn(rt, on, seat, turns),
-            };
-        };
-        let start = Instant::now(rt);
-        let looking = || look(rt, &mut observer, looks);
-        let (looked, ()) = join(rt, looking, || for_each_mut(rt, &mut seats, 4, &work));
-        Some((nanoseconds(rt, start)?, looked?, seats))
+    }
+    Some(seats)
+}
+
+fn mutex<J: Room, R: Wait, G: Gate<Ticket = Ticket> + Drop>(
+    rt: &R,
+    on: &Shared<J>,
+    seat: &mut Seat<J>,
+    gate: G,
+) -> Option<Mtx<J, G>> {
+    match Mtx::new(rt, on, seat, "m", None, LockFlags::empty(), gate) {
+        Ok(mutex) => Some(mutex),
+        Err(_) => None,
     }
 }
 
-fn run<
-    J: Room + Send + Sync,
-    R: Threads + Wait + Clock + Print + Sync,
-    G: Gate<Ticket = Ticket> + Drop + Send + Sync,
->(
+fn made<J: Room, R: Wait>(
+    rt: &R,
+    on: &Shared<J>,
+    seat: &mut Seat<J>,
+    bench: Bench,
+) -> Option<Common<J>> {
+    Some(match bench.over {
+        Over::None => Common::None,
+        Over::Cond => Common::Cond(mutex(rt, on, seat, CondGate::new(bench.alloc).ok()?)?),
+        Over::Spin => Common::Spin(mutex(rt, on, seat, SpinGate::new(bench.alloc).ok()?)?),
+    })
+}
+
+// Each of these seats takes its turns, in a thread of its own.
+fn work_all<J: Room + Send + Sync, R: Threads + Wait + Sync>(
+    rt: &R,
+    on: &Shared<J>,
+    seats: &mut [Seat<J>],
+    common: &Common<J>,
+    turns: u32,
+) {
+    for_each_mut(
+        rt,
+        seats,
+        4,
+        &|_, seat| {
+            let _done = match common {
+                Common::None => turn(rt, on, seat, turns),
+                Common::Cond(mutex) => take(rt, on, seat, mutex),
+                Common::Spin(mutex) => take(rt, on, seat, mutex),
+            };
+        },
+    );
+}
+
+// How long the turns and the looks took.
+fn measure<J: Room + Send + Sync, R: Threads + Wait + Clock + Sync>(
+    rt: &R,
+    on: &Shared<J>,
+    mut observers: Vec<Observer<J>>,
+    seats: &mut [Seat<J>],
+    bench: Bench,
+) -> Option<(u128, u128)>
+    requires { length seats.old ≡ 4 }
+{
+    let (turns, looks, mut observer) = (bench.turns, bench.looks, observers.pop()?);
+    for seat in seats.iter_mut() {
+        let _own = on.init(rt, seat, "a", None, CLASS, LockFlags::empty()).ok()?;
+    }
+    let common = made(rt, on, &mut seats[0], bench)?;
+    let count = if bench.threads < 4 { bench.threads as usize } else { 4 };
+    let at_work = &mut seats[..count];
+    let start = Instant::now(rt);
+    let looking = || look(rt, &mut observer, looks);
+    let (looked, ()) = join(rt, looking, || work_all(rt, on, at_work, &common, turns));
+    Some((nanoseconds(rt, start)?, looked?))
+}
+
+fn run<J: Room + Send + Sync, R: Threads + Wait + Clock + Print + Sync>(
     rt: &R,
     opened: OpenedVerifier,
-    bench: Bench<G>,
+    bench: Bench,
 ) -> Option<()>
     requires { (opened.story.start ≡ J.start) × (opened.table ≡ J.table) × (opened.list ≡ J.list) }
 {
-    let (what, threads, looks) = (bench.what, bench.threads, bench.looks);
+    let (what, alloc, threads, looks) = (bench.what, bench.alloc, bench.threads, bench.looks);
     let (on, observers) = opened.named::<J, R>(rt, 1).ok()?;
-    let Some((took, looked, seats)) = bench.measure(rt, &on, observers) else {
+    let Some(mut seats) = hire(rt, alloc, &on) else {
+        on.abandon(rt);
+        return None;
+    };
+    let Some((took, looked)) = measure(rt, &on, observers, seats.as_mut_slice(), bench) else {
+        abandon_all(seats);
         on.abandon(rt);
         return None;
     };
     let start = Instant::now(rt);
-    let verifier = on.close(rt, seats).map_err(|left| left.abandon(rt)).ok()?;
+    let verifier = match on.close(rt, seats) {
+        Ok(verifier) => verifier,
+        Err(unclosed) => {
+            unclosed.abandon(rt);
+            return None;
+        }
+    };
     let (closed, entries) = (nanoseconds(rt, start)?, verifier.history().len());
     let start = Instant::now(rt);
     drop(verifier);
@@ -189,12 +273,9 @@ fn run<
     println!(rt; "{what} {threads} {entries} {took} {looks} {looked} {closed} {dropped}").ok()
 }
 
-fn begin<R: Threads + Wait + Clock + Print + Sync, G: Gate<Ticket = Ticket> + Drop + Send + Sync>(
-    rt: &R,
-    bench: Bench<G>,
-) -> Option<()> {
+fn begin<R: Threads + Wait + Clock + Print + Sync>(rt: &R, bench: Bench) -> Option<()> {
     let opened = OpenedVerifier::new(bench.alloc, verifier(bench.alloc)?).ok()?;
-    run::<Brand, R, G>(rt, opened, bench)
+    run::<Brand, R>(rt, opened, bench)
 }
 
 fn main(rt: HostRuntime) -> io::Result<()> {
@@ -204,18 +285,16 @@ fn main(rt: HostRuntime) -> io::Result<()> {
     // Few turns twice, since the first close takes longer.
     let runs = [(1, few, 0), (1, few, 0), (1, all, 0), (4, TURNS, 0), (0, 0, looks), (3, all, looks)];
     for (threads, turns, looks) in runs {
-        let gate: Option<SpinGate> = None;
-        begin(&rt, Bench { what: "calls", alloc, gate, threads, turns, looks });
+        begin(&rt, Bench { what: "calls", alloc, over: Over::None, threads, turns, looks });
     }
     for threads in [1, 4] {
         let (mutex, start) = (&Mutex::new(0), Instant::now(&rt));
         let _done = map_indices(&rt, alloc, threads as usize, &|_| count(&rt, mutex)).ok();
         let took = nanoseconds(&rt, start).unwrap_or(0);
         println!(rt; "std {threads} {} {took}", 3 * TURNS * threads)?;
-        let (turns, looks, gate) = (TURNS, 0, CondGate::new(alloc).ok());
-        begin(&rt, Bench { what: "cond", alloc, gate, threads, turns, looks });
-        let gate = SpinGate::new(alloc).ok();
-        begin(&rt, Bench { what: "spin", alloc, gate, threads, turns, looks });
+        for (what, over) in [("cond", Over::Cond), ("spin", Over::Spin)] {
+            begin(&rt, Bench { what, alloc, over, threads, turns: TURNS, looks: 0 });
+        }
     }
     Ok(())
 }
