@@ -91,14 +91,29 @@ EXPORT int sem_destroy(sem_t *semaphore)
     return real.sem_destroy(semaphore);
 }
 
+/*
+ * The kernel doesn't go on with a wait that has a time limit where a handler has run, though the handler was set with
+ * SA_RESTART. So where there may be one the request is written at once, and the real call waits.
+ */
+static int semaphore_wait(struct request *request, sem_t *semaphore)
+{
+    if (!request->patient)
+        return semaphore_lock(semaphore);
+    int error = semaphore_look(semaphore);
+    if (error != EBUSY)
+        return error;
+    if (!atomic_load(&has_handlers))
+        return wait_patiently(request, &semaphore_way, semaphore);
+    request_waits(request);
+    return semaphore_lock(semaphore);
+}
+
 EXPORT int sem_wait(sem_t *semaphore)
 {
     struct request request;
     if (!begins(&request, semaphore, ASKS, CALLER))
         return real.sem_wait(semaphore);
-    int error = request.patient ? semaphore_look(semaphore) : semaphore_lock(semaphore);
-    if (request.patient && error == EBUSY)
-        error = wait_patiently(&request, &semaphore_way, semaphore);
+    int error = semaphore_wait(&request, semaphore);
     errno = error ? error : errno;
     return ends(&request, semaphore, error ? -1 : 0);
 }
