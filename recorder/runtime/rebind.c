@@ -261,10 +261,14 @@ static symbol_finder *real_finder(void)
     return found;
 }
 
-/* The real function goes by who has called it, so it is come to by a jump. */
+/* The real function goes by who has called it, unless it gets a handle: so it is come to by a jump then. */
 EXPORT void *dlsym(void *restrict handle, const char *restrict name)
 {
     if (UNLIKELY(atomic_load_explicit(&may_have_come, memory_order_relaxed)))
         others_rebound();
-    return real_finder()(handle, name);
+    if (handle == RTLD_DEFAULT || handle == RTLD_NEXT)
+        return real_finder()(handle, name);
+    void *found = real_finder()(handle, name);
+    library_finds(found, CALLER.pc, CALLER.stack);
+    return found;
 }

@@ -642,6 +642,10 @@ void objects_look(void);
 /* Whether the object of an address can be asked for; else objects_look comes before. */
 bool objects_are_found(void);
 
+/* libraries.c */
+/* Somebody there was told of that address by a handle. Where it is the C library's own call, that is noted. */
+void library_finds(const void *found, uintptr_t pc, uintptr_t stack);
+
 /* rebind.c */
 void library_comes(void);  /* an object may come that needs a library of library_locks.h */
 void others_rebound(void); /* the functions of those that have come are recorded from here on */

@@ -96,6 +96,15 @@ if wanted apart; then
     recorded_by "$record" -- ./apart none "$work/none.so"
     last_is 'record: nothing to report'
     tell apart "no library of that name" $?
+    compile byhandle
+    for library in libc.so.6 libpthread.so.0; do
+        recorded_by "$record" -- ./byhandle $library
+        last_is "record: nothing in what was recorded; not seen: locks of byhandle (see record(1))" && ! grep -q 'clean:' recorded.err
+        tell apart "a call that dlsym finds by a handle of $library" $?
+    done
+    recorded_by "$record" -- ./byhandle program
+    said 0 '^record: 1 report, 0 circles, 1 process$'
+    tell apart "a call that dlsym finds by a handle of the program" $?
 fi
 
 # A reader that reads again, and a writer that waits in between.
