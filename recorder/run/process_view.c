@@ -200,14 +200,17 @@ static void write_file(const char *path, const char *bytes, size_t length)
         fail_for_room();
 }
 
-static void copy_file(const char *path, const char *records)
+/* Whether anything is told there by now. */
+static bool copy_file(const char *path, const char *records)
 {
     size_t length;
     char *bytes = read_written(path, &length), *to = say_text("%s/%s", records, file_base(path));
     version_check(path, bytes, length);
-    write_file(to, bytes, whole_lines(bytes, length));
+    length = whole_lines(bytes, length);
+    write_file(to, bytes, length);
     free(bytes);
     free(to);
+    return length > 0;
 }
 
 /* What another user's processes couldn't write isn't known here: then the status is one of nothing. */
@@ -233,6 +236,7 @@ static void copy_status(const char *folder, const char *records)
 static char *copy_view(struct view *view, const char *work)
 {
     char *records = say_text("%s/records", work), *started = say_text("%s/started", records);
+    bool is_told = false;
     if (mkdir(records, 0700) != 0)
         fail_for_room();
     write_file(started, "", 0);
@@ -241,9 +245,11 @@ static char *copy_view(struct view *view, const char *work)
         ask(view->file, view->files);
     for (size_t i = 0; i < view->files; i++)
         if (fnmatch("*.trace", view->file[i], 0) != 0)
-            copy_file(view->file[i], records);
+            is_told |= copy_file(view->file[i], records);
     if (view->is_process)
         ask_no_more(view->file, view->files);
+    else if (!is_told)
+        refuse_target("there is nothing of a recorder in %s", view->target);
     copy_status(view->folder, records);
     return records;
 }

@@ -34,7 +34,8 @@ if wanted live; then
         'record: so far: nothing to report' >wanted.err
     sed 's/thread [0-9]* /thread N /' recorded.err | diff wanted.err - && kill "$(cat slow.pid)" && wait $! ; [ $? -eq 143 ]
     tell live "a mutex that a thread holds behind which it asked for nothing" $?
-    for words in "$$" 4194305 none; do
+    : >empty.file
+    for words in "$$" 4194305 none empty.file /dev/null; do
         recorded_by "$record" --show $words
         [ "$recorded" -eq 2 ] && [ "$(wc -l <recorded.err)" -eq 1 ] && grep -q "$words" recorded.err
         tell live "--show $words is refused" $?
