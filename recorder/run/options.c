@@ -138,8 +138,8 @@ static void take_confirm(struct options *options, const char *words)
         const char *file = after_beginning(at, "from=");
         end = file ? at + strlen(at) : at + strcspn(at, ",");
         char *word = copy_bytes(at, (size_t)(end - at));
-        if (file)
-            options->settings.confirm_from = *file ? file : NULL;
+        if (file && *file)
+            options->settings.confirm_from = file;
         else
             take_confirm_word(options, word);
         free(word);
@@ -241,7 +241,7 @@ static const struct option known[] = {
     {"--skip", WORD, CALL(take_skip)},
     {"--semaphores", ALONE, FLAG(semaphores)},
     {"--blocks", ALONE, FLAG(blocks)},
-    {"--show", INPUT, FILLED(target)},
+    {"--show", INPUT, TEXT(target)},
     {"--help", ALONE, CALL(take_help)},
     {"-h", ALONE, CALL(take_help)},
     {"--version", ALONE, CALL(take_version)},
@@ -264,13 +264,13 @@ static const struct earlier {
     {{"--graph", OUTPUT, CALL(take_graph)}, "--html FILE, a page with the pictures"},
     {{"--judge", ALONE, FLAG(settings.judge)}, "-o TRACE, and then witness migrate <TRACE"},
     {{"--confirm-time", WORD, CALL(take_confirm_time)}, "--confirm=time=SECONDS"},
-    {{"--confirm-from", INPUT, FILLED(settings.confirm_from)}, "--confirm=from=FILE"},
+    {{"--confirm-from", INPUT, TEXT(settings.confirm_from)}, "--confirm=from=FILE"},
     {{"--before", WORD, FILLED(settings.before)}, "-- sh -c 'COMMAND; exec PROGRAM'"},
     {{"--noise", MAYBE, CALL(take_noise)}, "--confirm=noise"},
     {{"--errors", WORD, CALL(take_errors)}, "--alarms no-errors"},
     {{"--gdb", ALONE, CALL(take_gdb)}, "--on-report gdb"},
-    {{"--trace", INPUT, FILLED(trace)}, "-o TRACE --show FILE"},
-    {{"--clean", INPUT, FILLED(clean)}, "witness clean <FILE"},
+    {{"--trace", INPUT, TEXT(trace)}, "-o TRACE --show FILE"},
+    {{"--clean", INPUT, TEXT(clean)}, "witness clean <FILE"},
     {{"--completion", WORD, CALL(take_completion)}, "tools/completion, or what tools/install puts under share"},
     {{"--full", ALONE, .kind = GONE}, "what is left out changes no verdict"},
     {{"--profile", WORD, .kind = GONE}, "a request is compared with all locks that its thread holds, always"},
@@ -354,6 +354,8 @@ static char **read_options(struct options *options, char **words, char *const *t
             refuse("%s needs a word after it", *words);
         if (option->after == OUTPUT)
             written_name_check(*words, words[1]);
+        if (option->after == INPUT && *words[1] == '\0')
+            refuse("%s takes a file, and its name is empty", *words);
         follow_option(options, option, *++words);
     }
     return words;

@@ -16,6 +16,8 @@ enum { LINKS_MOST = 40 };
 
 void written_name_check(const char *option, const char *name)
 {
+    if (*name == '\0')
+        refuse("%s takes a file, and its name is empty", option);
     if (*name == '-')
         refuse("%s takes a file, and %s begins with -: ./%s is a file of that name", option, name, name);
 }

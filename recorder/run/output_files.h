@@ -9,7 +9,7 @@
 #include <stdbool.h>
 #include <stdio.h>
 
-/* Refuses a name that begins with `-`: an option or `--` stands where the file is missing. */
+/* Refuses a name that is empty, and one that begins with `-`: an option or `--` stands where the file is missing. */
 void written_name_check(const char *option, const char *name);
 
 /* Refuses a file that can't be written. Nothing is left of the test. */

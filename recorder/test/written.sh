@@ -121,6 +121,14 @@ if wanted dashes; then
     recorded_by "$record" --json ./-- -- echo ran
     said 0 'nothing to report' && [ -s ./-- ]
     tell dashes "a file of that name" $?
+    for option in -o --learn --known --ignore --html --json --sarif --log-file --show; do
+        recorded_by "$record" $option "" -- echo ran
+        said 2 "^record: $option takes a file, and its name is empty;" && [ ! -s recorded.out ]
+        tell dashes "$option and an empty word" $?
+    done
+    recorded_by "$record" --confirm=from= -- echo ran
+    said 2 'last from=FILE' && [ ! -s recorded.out ]
+    tell dashes "--confirm=from= without a file" $?
     printf '%s\n' "$a > $b" >given
     for words in "merge -o" "judge --graph" "judge --html"; do
         "$orders" $words -- given >told 2>complaints
