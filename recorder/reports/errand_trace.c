@@ -50,7 +50,8 @@ bool errand_trace_adds(struct errand_trace *trace, const struct single *single, 
     ADD(trace->seat, trace->seats, trace->seat_room) = seat;
     for (size_t i = 0; i < seat.steps; i++)
         add_lock(trace, circle, seat.step[i].serial);
-    trace->lock[add_lock(trace, circle, fact->pair->asked.serial) - 1].is_asked = true;
+    size_t asked = add_lock(trace, circle, fact->pair->asked.serial);
+    trace->lock[asked - 1].is_asked = true;
     return true;
 }
 

@@ -215,10 +215,10 @@ struct held {
 /* What `how` is of a lock that was acquired once, in that mode, and isn't written. */
 #define HOW_ONCE(mode) ((uint64_t)(mode) << 32 | 1)
 /*
- * IS_WRITTEN: the stream has it held. KEPT_ON: since the lock was acquired, a request with a time limit has ended
- * without its lock (repeats.c). What is released quickly isn't written, so such a lock isn't.
+ * IS_WRITTEN: the stream has it held; AS_EXCLUSIVE, though it is a reader's. KEPT_ON: since the lock was acquired, a request
+ * with a time limit has ended without its lock (repeats.c). What is released quickly isn't written, so such a lock isn't.
  */
-enum { IS_WRITTEN = 1, KEPT_ON = 2 };
+enum { IS_WRITTEN = 1, KEPT_ON = 2, AS_EXCLUSIVE = 4 };
 
 /* The request with a time limit that a thread made last and that ended without its lock (repeats.c). */
 struct repeated {
@@ -290,6 +290,7 @@ struct request {
     bool waited_for_itself; /* that was written */
     bool has_errand;        /* while its pairs are told: their thread's errand is the last one in the stream */
     bool pending;           /* the stream has it */
+    bool as_exclusive;      /* there, though it is a reader's */
     bool got;               /* it has ended with the lock */
     uint32_t number;
 };

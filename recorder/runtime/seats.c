@@ -123,11 +123,14 @@ uint32_t lock_number(struct thread *thread, struct lock *lock)
     return *number == NUMBER_NONE ? 0 : *number;
 }
 
-/* As lock_number, for a pair of single locks: it takes none of the numbers that may be needed for the trace. */
+/*
+ * As lock_number, for a pair of single locks: it takes none of the numbers that may be needed for the trace. What the thread
+ * held may be another lock by now, which isn't made while a request is pending.
+ */
 uint32_t lock_number_for_pair(struct thread *thread, struct lock *lock)
 {
     uint32_t number = *mark(&lock->marks);
-    if (number == 0 && thread->seat != 0 && locks_numbered < LOCKS / 2)
+    if (number == 0 && thread->seat != 0 && thread->asked == 0 && locks_numbered < LOCKS / 2)
         return lock_number(thread, lock);
     return number == NUMBER_NONE ? 0 : number;
 }

@@ -58,6 +58,26 @@ static char letter_of(uint8_t mode)
     return mode == SHARED ? 's' : 'x';
 }
 
+static bool has_readers(const struct lock *lock)
+{
+    return lock->type->class == RWLOCK || lock->type->class == TOLD_RWLOCK;
+}
+
+/*
+ * The mode in which a request is written. Memory may be another lock's by now, and no call has told so: what was a mutex there
+ * has no readers.
+ */
+static uint8_t mode_of(const struct lock *lock, uint8_t mode)
+{
+    return has_readers(lock) ? mode : EXCLUSIVE;
+}
+
+/* The acquisition is written, in that mode. */
+static void note_written(struct held *held, uint8_t mode)
+{
+    held->written |= mode == held->mode ? IS_WRITTEN : IS_WRITTEN | AS_EXCLUSIVE;
+}
+
 /* A request or a try: what it says of the lock, HOW, the place, and the stack where there is one. */
 static void write_asking(const char *word, const struct thread *thread, uint32_t lock, uint8_t mode, const char *how,
     uint32_t place, uint32_t stack)
@@ -89,13 +109,14 @@ static void write_lock(const struct thread *thread, uint32_t lock)
 
 static void write_held(struct thread *thread, struct held *held)
 {
-    held->written |= IS_WRITTEN;
+    uint8_t mode = mode_of(held->lock, held->mode);
+    note_written(held, mode);
     number_stands(thread, held->number);
     if (held->tried) {
-        write_asking(WORD_TRY, thread, held->number, held->mode, NULL, held->place, held->stack);
-        judge_tried(thread, held->number, held->mode, held->place);
+        write_asking(WORD_TRY, thread, held->number, mode, NULL, held->place, held->stack);
+        judge_tried(thread, held->number, mode, held->place);
     } else {
-        write_check(thread, held->number, held->mode, CHECK_ASKS, held->place, held->stack);
+        write_check(thread, held->number, mode, CHECK_ASKS, held->place, held->stack);
         write_lock(thread, held->number);
     }
 }
@@ -127,7 +148,9 @@ static void chain_read(struct thread *thread)
 static void write_asked(struct request *request, uint32_t number, bool is_due)
 {
     struct thread *thread = request->thread;
-    write_check(thread, number, request->mode, is_due ? CHECK_ASKS : CHECK_KNOWN, request->place, request->stack);
+    uint8_t mode = mode_of(request->lock, request->mode);
+    request->as_exclusive = mode != request->mode;
+    write_check(thread, number, mode, is_due ? CHECK_ASKS : CHECK_KNOWN, request->place, request->stack);
     request->number = thread->asked = number;
     request->pending = true;
     number_stands(thread, number);
@@ -212,7 +235,7 @@ COLD void write_acquired(struct request *request, struct held *held)
     ENTERS_OR return;
     write_lock(request->thread, request->number);
     request->thread->asked = 0;
-    held->written |= IS_WRITTEN;
+    note_written(held, request->as_exclusive ? EXCLUSIVE : held->mode);
     held->number = request->number;
 }
 
@@ -253,9 +276,10 @@ COLD void write_left(void *argument)
 /* Before the real release of all acquisitions. */
 COLD void write_unlock(struct thread *thread, struct held *held)
 {
+    uint8_t mode = held->written & AS_EXCLUSIVE ? EXCLUSIVE : held->mode;
     ENTERS_OR return;
-    write_entry(WORD_UNLOCK " %u %u %c", thread->seat, held->number, letter_of(held->mode));
-    judge_released(thread, held->number, held->mode);
+    write_entry(WORD_UNLOCK " %u %u %c", thread->seat, held->number, letter_of(mode));
+    judge_released(thread, held->number, mode);
     number_stands_no_more(thread, held->number);
 }
 
@@ -388,9 +412,8 @@ void write_init(struct thread *thread, struct lock *lock)
 {
     struct type *type = lock->type;
     const char *const flags[] = {"", INIT_RECURSIVE, INIT_SHARED, INIT_RECURSIVE INIT_SHARED};
-    line_put(WORD_INIT " %u %s %s %u %u", thread->seat,
-        type->class == RWLOCK || type->class == TOLD_RWLOCK ? "rw" : "mtx", flags[lock->recursive + 2 * lock->shared],
-        *mark(&type->marks), lock->name->number);
+    line_put(WORD_INIT " %u %s %s %u %u", thread->seat, has_readers(lock) ? "rw" : "mtx",
+        flags[lock->recursive + 2 * lock->shared], *mark(&type->marks), lock->name->number);
     if (type->object)
         put_variable(type->object, atomic_load(&lock->address));
     stream_append(true);

@@ -58,6 +58,9 @@ if wanted schedules; then
     hangs "a lock that is taken a hundred times on the way" \
         'hangs so: 6 steps, threads N and M, resting on 1 acquisition (schedule.c:57 has "other" before schedule.c:36)' \
         "hangs 6 2 1" ./schedule loop 100
+    hangs "fifteen locks on the way" \
+        'hangs so: 34 steps, threads N and M, resting on 1 acquisition (schedule.c:57 has "other" before schedule.c:36)' \
+        "hangs 34 2 1" ./schedule long 15
     hangs "a long way" 'no schedule: a thread did more on its way than is kept' "cut 0 0 0" ./schedule long 60
     hangs "locks that each keeps, and has for a while" \
         'no schedule: thread N takes "third" @ schedule.c:64 on its way, which is another one'"'"'s by then' "barred 0 0 0" \

@@ -140,3 +140,15 @@ if wanted processes; then
         tell processes "one process ($class)" $?
     done
 fi
+
+# What a thread holds may be another lock by the time that its request is told.
+run_remade() {
+    recorded_by "$record" -- ./remade
+}
+if wanted remade; then
+    compile remade
+    writing_all run_remade
+    last_is 'record: nothing to report' && ! grep -q "can't be\|accepted" recorded.err
+    tell remade "a lock that another thread makes anew while it is held" $?
+    drop_kept
+fi
