@@ -6,48 +6,48 @@ use Rattle.wit_model.specs.declared.locks.SeatNo.{SeatNo}
 use Rattle.wit_model.specs.Rules.Circles.{TellsCircle, Waits, seat_numbers, circle_numbers}
 use Rattle.wit_model.specs.Rules.State.{state_of}
 use Rattle.wit_model.specs.Trace.Views as views
-use Rattle.wit_c.specs.declared.judge.Judge.{Judge}
+use Rattle.wit_c.specs.declared.kept_verifier.KeptVerifier.{KeptVerifier}
 use Rattle.wit_c.specs.Texts.{IsTold, IsToldOrFails}
 use Rattle.wit_c.specs.Views.{TellsSeats, TellsCircleText}
 
 -- the circle, as it is shown
-shown_circle : (judge : Judge) (circle : Option (Vec SeatNo)) (seats : Vec SeatNo)
-    (shown : List SeatNo) → TellsCircle (Waits (state_of judge.verifier)) (circle_numbers circle)
+shown_circle : (kept : KeptVerifier) (circle : Option (Vec SeatNo)) (seats : Vec SeatNo)
+    (shown : List SeatNo) → TellsCircle (Waits (state_of kept.verifier)) (circle_numbers circle)
     → circle ≡ Some seats → shown ≡ seats.items
-    → TellsCircle (Waits (state_of judge.verifier)) (Some (seat_numbers shown))
-shown_circle judge circle seats shown is some same =
+    → TellsCircle (Waits (state_of kept.verifier)) (Some (seat_numbers shown))
+shown_circle kept circle seats shown is some same =
     subst (λ (s : List SeatNo).
-    TellsCircle (Waits (state_of judge.verifier)) (Some (seat_numbers s))) (sym same)
+    TellsCircle (Waits (state_of kept.verifier)) (Some (seat_numbers s))) (sym same)
     (subst (λ (o : Option (Vec SeatNo)).
-    TellsCircle (Waits (state_of judge.verifier)) (circle_numbers o)) some is)
+    TellsCircle (Waits (state_of kept.verifier)) (circle_numbers o)) some is)
 
-pub seats_told : (judge : Judge) (circle : Option (Vec SeatNo)) (seats : Vec SeatNo)
+pub seats_told : (kept : KeptVerifier) (circle : Option (Vec SeatNo)) (seats : Vec SeatNo)
     (shown : List SeatNo) (numbers old : List ℕ) (n : ℤ) (new : List ℕ)
-    → TellsCircle (Waits (state_of judge.verifier)) (circle_numbers circle) → circle ≡ Some seats
+    → TellsCircle (Waits (state_of kept.verifier)) (circle_numbers circle) → circle ≡ Some seats
     → shown ≡ seats.items → numbers ≡ seat_numbers shown → IsTold numbers old n new
-    → TellsSeats judge old n new
+    → TellsSeats kept old n new
 unfolding TellsSeats
-seats_told judge circle seats shown numbers old n new is some same numbered told =
+seats_told kept circle seats shown numbers old n new is some same numbered told =
     inl (
       Some (seat_numbers shown),
       (
-        shown_circle judge circle seats shown is some same,
+        shown_circle kept circle seats shown is some same,
         subst (λ (all : List ℕ). IsTold all old n new) numbered told,
       ),
     )
 
-pub circle_told : (judge : Judge) (circle : Option (Vec SeatNo)) (seats : Vec SeatNo)
+pub circle_told : (kept : KeptVerifier) (circle : Option (Vec SeatNo)) (seats : Vec SeatNo)
     (shown : List SeatNo) (old : List ℕ) (n : ℤ) (new : List ℕ)
-    → TellsCircle (Waits (state_of judge.verifier)) (circle_numbers circle) → circle ≡ Some seats
+    → TellsCircle (Waits (state_of kept.verifier)) (circle_numbers circle) → circle ≡ Some seats
     → shown ≡ seats.items
-    → IsToldOrFails (views.circle_text (state_of judge.verifier) (Some (seat_numbers shown))) old n
-    new → TellsCircleText judge old n new
+    → IsToldOrFails (views.circle_text (state_of kept.verifier) (Some (seat_numbers shown))) old n
+    new → TellsCircleText kept old n new
 unfolding TellsCircleText
-circle_told judge circle seats shown old n new is some same told =
+circle_told kept circle seats shown old n new is some same told =
     elim told [
       | inl t ↦ inl (
         Some (seat_numbers shown),
-        (shown_circle judge circle seats shown is some same, t),
+        (shown_circle kept circle seats shown is some same, t),
       )
       | inr u ↦ inr u
     ]

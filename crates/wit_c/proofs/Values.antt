@@ -19,7 +19,7 @@ use Rattle.std_heap.specs.contracts.Global as heap
 use Rattle.std_heap.specs.contracts.GlobalAllocator.TheImpl.{ghosts}
 use Rattle.std_heap.proofs.Handle.{heap_val, heap_Tells}
 use Rattle.wit_c.specs.Owned.{owned}
-use Rattle.wit_c.specs.contracts.judge.Judge.{the_row as R}
+use Rattle.wit_c.specs.contracts.kept_verifier.KeptVerifier.{the_row as R}
 use Rattle.wit_c.specs.contracts.parts.Parts as parts
 use Rattle.wit_c.specs.contracts.handle.Handle as handle
 

@@ -13,7 +13,7 @@ use Rattle.wit_model.specs.Rules.Start.{start_fault, IsRefused}
 use Rattle.wit_model.specs.Rules.State.{Start, fresh}
 use Rattle.wit_c.specs.Numbers.{full_place, no_such, fault_number, class_in}
 use Rattle.wit_c.specs.Texts.{name_in}
-use Rattle.wit_c.specs.declared.judge.Judge.{Judge}
+use Rattle.wit_c.specs.declared.kept_verifier.KeptVerifier.{KeptVerifier}
 use Rattle.wit_c.specs.declared.lists.ListedType.{ListedType}
 use Rattle.wit_c.specs.declared.lists.BlessedPair.{BlessedPair}
 
@@ -44,23 +44,23 @@ start_in profile sizes lists pairs = record {
 
 -- the place has a verifier that begins so, and nothing is reported yet; or the start is refused, and
 -- the fault's number and its list's are told
-abbrev pub IsBegun : Start → ℤ → ℕ → Option Judge → Type 0
+abbrev pub IsBegun : Start → ℤ → ℕ → Option KeptVerifier → Type 0
 IsBegun start n list None =
     (fault : Fault) × (IsRefused start list fault × (n ≡ fault_number fault))
-IsBegun start n list (Some judge) =
-    (start_fault start ≡ None) × ((judge.verifier ≡ fresh start) × ((judge.last ≡ Ok Pass)
+IsBegun start n list (Some kept) =
+    (start_fault start ≡ None) × ((kept.verifier ≡ fresh start) × ((kept.last ≡ Ok Pass)
     × ((n ≡ pos 0) × (list ≡ 0))))
 
 -- no verifier is made: that is the answer, no list is named, and the place stays
-abbrev pub IsUnmade : Option Judge → ℤ → ℤ → ℕ → Option Judge → Type 0
+abbrev pub IsUnmade : Option KeptVerifier → ℤ → ℤ → ℕ → Option KeptVerifier → Type 0
 IsUnmade old answer n list new = (n ≡ answer) × ((list ≡ 0) × (new ≡ old))
 
 -- where the numbers stand for something, a verifier begins
-abbrev pub Begins : Bool → Start → ℤ → ℕ → Option Judge → Type 0
+abbrev pub Begins : Bool → Start → ℤ → ℕ → Option KeptVerifier → Type 0
 Begins true start n list new = IsBegun start n list new
 Begins false start n list new = IsUnmade None no_such n list new
 
 -- in a place that is empty
-abbrev pub Starts : Bool → Start → Option Judge → ℤ → ℕ → Option Judge → Type 0
+abbrev pub Starts : Bool → Start → Option KeptVerifier → ℤ → ℕ → Option KeptVerifier → Type 0
 Starts good start None n list new = Begins good start n list new
-Starts good start (Some judge) n list new = IsUnmade (Some judge) full_place n list new
+Starts good start (Some kept) n list new = IsUnmade (Some kept) full_place n list new

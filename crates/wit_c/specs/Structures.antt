@@ -20,7 +20,7 @@ use Rattle.wit_model.specs.Trace.Paths.{path}
 use Rattle.wit_model.specs.Trace.Views.{all_held}
 use Rattle.wit_c.specs.Numbers.{class_number, mode_number, heading_number, origin_number}
 use Rattle.wit_c.specs.Numbers.{site_in}
-use Rattle.wit_c.specs.declared.judge.Judge.{Judge}
+use Rattle.wit_c.specs.declared.kept_verifier.KeptVerifier.{KeptVerifier}
 use Rattle.wit_c.specs.declared.structures.LockTold.{LockTold}
 use Rattle.wit_c.specs.declared.structures.ReportTold.{ReportTold}
 use Rattle.wit_c.specs.declared.structures.OrderTold.{OrderTold}
@@ -87,8 +87,8 @@ abbrev pub answer_told : Story → Result Reply Fault → ReportTold
 answer_told s (Ok reply) = reply_told s reply
 answer_told s (Err fault) = no_report
 
-abbrev pub last_report : Judge → ReportTold
-last_report judge = answer_told judge.verifier judge.last
+abbrev pub last_report : KeptVerifier → ReportTold
+last_report kept = answer_told kept.verifier kept.last
 
 -- ---- the established order that it goes against
 
@@ -126,8 +126,8 @@ answer_path s (Ok (Reversal c)) =
 answer_path s _ = []
 
 -- from the type of the lock that was asked for to that of the held one
-abbrev pub last_path : Judge → List OrderTold
-last_path judge = answer_path judge.verifier judge.last
+abbrev pub last_path : KeptVerifier → List OrderTold
+last_path kept = answer_path kept.verifier kept.last
 
 -- ---- held locks
 
@@ -138,19 +138,19 @@ instance_told s i = record {
   count = i.count;
 }
 
-abbrev pub held_told : ℕ → Judge → List HeldTold
-held_told seat judge =
-    map (instance_told judge.verifier) (all_held (seat_at (state_of judge.verifier) seat))
+abbrev pub held_told : ℕ → KeptVerifier → List HeldTold
+held_told seat kept =
+    map (instance_told kept.verifier) (all_held (seat_at (state_of kept.verifier) seat))
 
 -- ---- names, empty under a number that was never given
 
-abbrev pub lock_name : ℕ → Judge → List ℕ
-lock_name l judge =
-    let s = judge.verifier in unwrap_or (numbered.lock_name (typed_locks s.start s.history) l) []
+abbrev pub lock_name : ℕ → KeptVerifier → List ℕ
+lock_name l kept =
+    let s = kept.verifier in unwrap_or (numbered.lock_name (typed_locks s.start s.history) l) []
 
-abbrev pub type_name : ℕ → Judge → List ℕ
-type_name t judge =
-    let s = judge.verifier in unwrap_or (numbered.type_name (types_of s.start s.history) t) []
+abbrev pub type_name : ℕ → KeptVerifier → List ℕ
+type_name t kept =
+    let s = kept.verifier in unwrap_or (numbered.type_name (types_of s.start s.history) t) []
 
-abbrev pub file_name : ℕ → Judge → List ℕ
-file_name f judge = unwrap_or (with_number judge.verifier.files f) []
+abbrev pub file_name : ℕ → KeptVerifier → List ℕ
+file_name f kept = unwrap_or (with_number kept.verifier.files f) []

@@ -16,34 +16,34 @@ use Rattle.wit_model.specs.Trace.Paths.{path}
 use Rattle.wit_model.specs.Trace.Views as views
 use Rattle.wit_c.specs.Numbers.{fault_number, lock_in}
 use Rattle.wit_c.specs.Texts.{IsTold, IsUntold, IsToldOrFails}
-use Rattle.wit_c.specs.declared.judge.Judge.{Judge}
+use Rattle.wit_c.specs.declared.kept_verifier.KeptVerifier.{KeptVerifier}
 
 -- what is reported by the answer that is kept
 abbrev pub answer_text : Story → Result Reply Fault → List ℕ
 answer_text story (Ok reply) = reply_text story reply
 answer_text story (Err fault) = []
 
-abbrev pub last_text : Judge → List ℕ
-last_text judge = answer_text judge.verifier judge.last
+abbrev pub last_text : KeptVerifier → List ℕ
+last_text kept = answer_text kept.verifier kept.last
 
-abbrev pub locks_text : ℕ → Judge → List ℕ
-locks_text seat judge = views.locks_text judge.verifier seat
+abbrev pub locks_text : ℕ → KeptVerifier → List ℕ
+locks_text seat kept = views.locks_text kept.verifier seat
 
-abbrev pub all_locks_text : Judge → List ℕ
-all_locks_text judge = views.all_locks_text judge.verifier
+abbrev pub all_locks_text : KeptVerifier → List ℕ
+all_locks_text kept = views.all_locks_text kept.verifier
 
-abbrev pub graph_text : Judge → List ℕ
-graph_text judge = views.graph_text judge.verifier
+abbrev pub graph_text : KeptVerifier → List ℕ
+graph_text kept = views.graph_text kept.verifier
 
-abbrev pub warning_text : ℕ → Option LockNo → WarnFlags → Judge → List ℕ
-warning_text seat named flags judge =
-    let s = judge.verifier in
+abbrev pub warning_text : ℕ → Option LockNo → WarnFlags → KeptVerifier → List ℕ
+warning_text seat named flags kept =
+    let s = kept.verifier in
     views.warn_text (typed_locks s.start s.history) s.files (warned (state_of s) seat named flags)
 
 -- the text of a warning, where 0 names no lock
-unfoldable pub TellsWarning : ℕ → ℕ → WarnFlags → Judge → List ℕ → ℤ → List ℕ → Type 0
-TellsWarning seat named flags judge old n new =
-    IsToldOrFails (warning_text seat (lock_in named) flags judge) old n new
+unfoldable pub TellsWarning : ℕ → ℕ → WarnFlags → KeptVerifier → List ℕ → ℤ → List ℕ → Type 0
+TellsWarning seat named flags kept old n new =
+    IsToldOrFails (warning_text seat (lock_in named) flags kept) old n new
 
 -- the text of what an assertion comes to; or its fault, and the buffer stays
 abbrev pub IsAssertTold : Story → ℕ → Result AssertAnswer Fault → List ℕ → ℤ → List ℕ → Type 0
@@ -51,25 +51,25 @@ IsAssertTold s lock (Ok answer) old n new =
     IsToldOrFails (views.assert_text (typed_locks s.start s.history) lock answer) old n new
 IsAssertTold s lock (Err fault) old n new = (n ≡ fault_number fault) × (new ≡ old)
 
-abbrev pub TellsAssertion : ℕ → ℕ → LockAssert → Judge → List ℕ → ℤ → List ℕ → Type 0
-TellsAssertion seat lock flags judge old n new =
-    IsAssertTold judge.verifier lock (step_assert (state_of judge.verifier) seat lock flags)
+abbrev pub TellsAssertion : ℕ → ℕ → LockAssert → KeptVerifier → List ℕ → ℤ → List ℕ → Type 0
+TellsAssertion seat lock flags kept old n new =
+    IsAssertTold kept.verifier lock (step_assert (state_of kept.verifier) seat lock flags)
     old n new
 
 -- the types on the path of adopted orders from one to the other; none where none leads there
-abbrev pub path_types : ℕ → ℕ → Judge → List ℕ
-path_types a b judge =
-    let s = judge.verifier in
+abbrev pub path_types : ℕ → ℕ → KeptVerifier → List ℕ
+path_types a b kept =
+    let s = kept.verifier in
     unwrap_or (path (orders_of s.start s.history) (length (types_of s.start s.history)) a b) []
 
 -- the seats of a circle of those that wait, or none exactly where none do
-unfoldable pub TellsSeats : Judge → List ℕ → ℤ → List ℕ → Type 0
-TellsSeats judge old n new =
-    ((circle : Option (List ℕ)) × (TellsCircle (Waits (state_of judge.verifier)) circle
+unfoldable pub TellsSeats : KeptVerifier → List ℕ → ℤ → List ℕ → Type 0
+TellsSeats kept old n new =
+    ((circle : Option (List ℕ)) × (TellsCircle (Waits (state_of kept.verifier)) circle
     × IsTold (unwrap_or circle []) old n new)) ⊎ IsUntold old n new
 
 -- the text of such a circle
-unfoldable pub TellsCircleText : Judge → List ℕ → ℤ → List ℕ → Type 0
-TellsCircleText judge old n new =
-    ((circle : Option (List ℕ)) × (TellsCircle (Waits (state_of judge.verifier)) circle
-    × IsTold (views.circle_text (state_of judge.verifier) circle) old n new)) ⊎ IsUntold old n new
+unfoldable pub TellsCircleText : KeptVerifier → List ℕ → ℤ → List ℕ → Type 0
+TellsCircleText kept old n new =
+    ((circle : Option (List ℕ)) × (TellsCircle (Waits (state_of kept.verifier)) circle
+    × IsTold (views.circle_text (state_of kept.verifier) circle) old n new)) ⊎ IsUntold old n new

@@ -35,11 +35,11 @@ pub extern "C" fn wit_init(
     ensures refused { class_in class ≡ None
         → Asks (λ _ n. n ≡ no_such) place.old.handle.value result place.new.handle.value }
 {
-    let Some(mut judge) = place.take(alloc) else {
+    let Some(mut kept) = place.take(alloc) else {
         return EMPTY_PLACE;
     };
     let number = match class_in(class) {
-        Some(class) => judge.init(
+        Some(class) => kept.init(
             SeatNo(seat),
             name_in(name),
             type_name_in(type_name),
@@ -48,7 +48,7 @@ pub extern "C" fn wit_init(
         ),
         None => NO_SUCH,
     };
-    place.put(judge);
+    place.put(kept);
     number
 }
 
@@ -95,12 +95,12 @@ pub extern "C" fn wit_note(alloc: Global, place: &mut Place, seat: u16, lock: u3
     ensures { CallsSurely seat (Note (record { 0 = lock }))
         place.old.handle.value result place.new.handle.value }
 {
-    let Some(mut judge) = place.take(alloc) else {
+    let Some(mut kept) = place.take(alloc) else {
         return EMPTY_PLACE;
     };
-    let answer = judge.verifier.note(SeatNo(seat), LockNo(lock));
-    let number = judge.keep(answer);
-    place.put(judge);
+    let answer = kept.verifier.note(SeatNo(seat), LockNo(lock));
+    let number = kept.keep(answer);
+    place.put(kept);
     number
 }
 
@@ -128,12 +128,12 @@ pub extern "C" fn wit_give_up(alloc: Global, place: &mut Place, seat: u16, lock:
     ensures { CallsSurely seat (GiveUp (record { 0 = lock }))
         place.old.handle.value result place.new.handle.value }
 {
-    let Some(mut judge) = place.take(alloc) else {
+    let Some(mut kept) = place.take(alloc) else {
         return EMPTY_PLACE;
     };
-    let answer = judge.verifier.give_up(SeatNo(seat), LockNo(lock));
-    let number = judge.keep(answer);
-    place.put(judge);
+    let answer = kept.verifier.give_up(SeatNo(seat), LockNo(lock));
+    let number = kept.keep(answer);
+    place.put(kept);
     number
 }
 
@@ -149,13 +149,13 @@ pub extern "C" fn wit_unlock(
     ensures { CallsSurely seat (Unlock (record { 0 = lock }) (mode_in exclusive))
         place.old.handle.value result place.new.handle.value }
 {
-    let Some(mut judge) = place.take(alloc) else {
+    let Some(mut kept) = place.take(alloc) else {
         return EMPTY_PLACE;
     };
     let mode = mode_in(exclusive);
-    let answer = judge.verifier.unlock(SeatNo(seat), LockNo(lock), mode);
-    let number = judge.keep(answer);
-    place.put(judge);
+    let answer = kept.verifier.unlock(SeatNo(seat), LockNo(lock), mode);
+    let number = kept.keep(answer);
+    place.put(kept);
     number
 }
 
@@ -219,16 +219,16 @@ pub extern "C" fn wit_set_watch(alloc: Global, place: &mut Place, seat: u16, lev
     ensures refused { watch_in level ≡ None
         → Asks (λ _ n. n ≡ no_such) place.old.handle.value result place.new.handle.value }
 {
-    let Some(mut judge) = place.take(alloc) else {
+    let Some(mut kept) = place.take(alloc) else {
         return EMPTY_PLACE;
     };
     let number = match watch_in(level) {
         Some(watch) => {
-            let answer = judge.verifier.set_watch(SeatNo(seat), watch);
-            judge.keep(answer)
+            let answer = kept.verifier.set_watch(SeatNo(seat), watch);
+            kept.keep(answer)
         }
         None => NO_SUCH,
     };
-    place.put(judge);
+    place.put(kept);
     number
 }

@@ -7,7 +7,7 @@ ghost use Rattle.wit_c.specs.Places.{Asks, Fills, TellsAll, TellsSurely};
 ghost use Rattle.wit_c.specs.Structures.{last_report, last_path, held_told};
 ghost use Rattle.wit_c.specs.Structures.{lock_name, type_name, file_name};
 
-use crate::judge::Judge;
+use crate::kept_verifier::KeptVerifier;
 use crate::numbers::{EMPTY_PLACE, count_number, report_number};
 use crate::place::Place;
 use crate::structures::{HeldTold, OrderTold, ReportTold, answer_told};
@@ -17,15 +17,15 @@ use wit_model::{FileNo, LockNo, SeatNo, TypeNo};
 /// The report that the last call made, and by which reply; all zeroes where it made none.
 #[unsafe(no_mangle)]
 pub extern "C" fn wit_report(alloc: Global, place: &mut Place, to: &mut ReportTold) -> i64
-    ensures { Fills (λ (judge : Judge). report_number judge.last) last_report to.old to.new
+    ensures { Fills (λ (kept : KeptVerifier). report_number kept.last) last_report to.old to.new
         place.old.handle.value result place.new.handle.value }
 {
-    let Some(judge) = place.take(alloc) else {
+    let Some(kept) = place.take(alloc) else {
         return EMPTY_PLACE;
     };
-    *to = answer_told(&judge.verifier, &judge.last);
-    let number = report_number(&judge.last);
-    place.put(judge);
+    *to = answer_told(&kept.verifier, &kept.last);
+    let number = report_number(&kept.last);
+    place.put(kept);
     number
 }
 
@@ -37,11 +37,11 @@ pub extern "C" fn wit_report_path(alloc: Global, place: &mut Place, to: &mut [Or
     ensures { TellsAll last_path to.old to.new
         place.old.handle.value result place.new.handle.value }
 {
-    let Some(judge) = place.take(alloc) else {
+    let Some(kept) = place.take(alloc) else {
         return EMPTY_PLACE;
     };
-    let number = judge.tell_last_path(alloc, to);
-    place.put(judge);
+    let number = kept.tell_last_path(alloc, to);
+    place.put(kept);
     number
 }
 
@@ -51,11 +51,11 @@ pub extern "C" fn wit_held(alloc: Global, place: &mut Place, seat: u16, to: &mut
     ensures { TellsAll (held_told seat) to.old to.new
         place.old.handle.value result place.new.handle.value }
 {
-    let Some(judge) = place.take(alloc) else {
+    let Some(kept) = place.take(alloc) else {
         return EMPTY_PLACE;
     };
-    let number = judge.tell_held(alloc, SeatNo(seat), to);
-    place.put(judge);
+    let number = kept.tell_held(alloc, SeatNo(seat), to);
+    place.put(kept);
     number
 }
 
@@ -65,11 +65,11 @@ pub extern "C" fn wit_free_chunks(alloc: Global, place: &mut Place) -> i64
     ensures { Asks (λ s n. n ≡ count_number (free (state_of s)))
         place.old.handle.value result place.new.handle.value }
 {
-    let Some(judge) = place.take(alloc) else {
+    let Some(kept) = place.take(alloc) else {
         return EMPTY_PLACE;
     };
-    let chunks = judge.verifier.free_chunks();
-    place.put(judge);
+    let chunks = kept.verifier.free_chunks();
+    place.put(kept);
     count_number(chunks)
 }
 
@@ -79,11 +79,11 @@ pub extern "C" fn wit_lock_name(alloc: Global, place: &mut Place, lock: u32, to:
     ensures { TellsSurely (lock_name lock) to.old to.new
         place.old.handle.value result place.new.handle.value }
 {
-    let Some(judge) = place.take(alloc) else {
+    let Some(kept) = place.take(alloc) else {
         return EMPTY_PLACE;
     };
-    let number = judge.tell_lock_name(LockNo(lock), to);
-    place.put(judge);
+    let number = kept.tell_lock_name(LockNo(lock), to);
+    place.put(kept);
     number
 }
 
@@ -98,11 +98,11 @@ pub extern "C" fn wit_type_name(
     ensures { TellsSurely (type_name type_no) to.old to.new
         place.old.handle.value result place.new.handle.value }
 {
-    let Some(judge) = place.take(alloc) else {
+    let Some(kept) = place.take(alloc) else {
         return EMPTY_PLACE;
     };
-    let number = judge.tell_type_name(TypeNo(type_no), to);
-    place.put(judge);
+    let number = kept.tell_type_name(TypeNo(type_no), to);
+    place.put(kept);
     number
 }
 
@@ -112,10 +112,10 @@ pub extern "C" fn wit_file_name(alloc: Global, place: &mut Place, file: u16, to:
     ensures { TellsSurely (file_name file) to.old to.new
         place.old.handle.value result place.new.handle.value }
 {
-    let Some(judge) = place.take(alloc) else {
+    let Some(kept) = place.take(alloc) else {
         return EMPTY_PLACE;
     };
-    let number = judge.tell_file_name(FileNo(file), to);
-    place.put(judge);
+    let number = kept.tell_file_name(FileNo(file), to);
+    place.put(kept);
     number
 }

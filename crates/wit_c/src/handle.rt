@@ -1,9 +1,9 @@
 //! A pointer that C may hold for a verifier.
 
 ghost use Rattle.std.specs.Prelude.{◌≡◌, Some, None, Option, IsSome, IfSome};
-ghost use Rattle.wit_c.specs.declared.judge.Judge.{Judge};
+ghost use Rattle.wit_c.specs.declared.kept_verifier.KeptVerifier.{KeptVerifier};
 
-use crate::judge::Judge;
+use crate::kept_verifier::KeptVerifier;
 use crate::parts::Parts;
 use std::alloc::Global;
 use std::marker::Model;
@@ -15,15 +15,15 @@ use std::marker::Model;
 pub struct Handle {
     at: *mut u8,
     alloc: Global,
-    pub(crate) ghost value: { Option Judge },
+    pub(crate) ghost value: { Option KeptVerifier },
 }
 
 impl Model for Handle {
-    ghost use Rattle.wit_c.specs.contracts.judge.Judge.{the_row as judge_row};
+    ghost use Rattle.wit_c.specs.contracts.kept_verifier.KeptVerifier.{the_row as kept_row};
     ghost use Rattle.wit_c.specs.Owned.{owned};
     ghost use Rattle.std_heap.specs.contracts.GlobalAllocator.TheImpl.{ghosts};
 
-    ghost also_owns = { λ h. owned (ghosts.dealloc_token h.alloc) judge_row h.at h.value };
+    ghost also_owns = { λ h. owned (ghosts.dealloc_token h.alloc) kept_row h.at h.value };
 }
 
 // A verifier may go to another thread, and so may the right to free it.
@@ -41,7 +41,7 @@ impl Handle {
     }
 
     // A handle to what these parts of a box have.
-    pub(crate) fn of(parts: Parts<Judge, Global>) -> Handle
+    pub(crate) fn of(parts: Parts<KeptVerifier, Global>) -> Handle
         ensures { result.value ≡ Some parts.value }
     {
         let Parts { ptr, alloc } = parts;
@@ -52,13 +52,13 @@ impl Handle {
     }
 
     // The parts of the box that it has.
-    pub(crate) fn into_parts(self) -> Parts<Judge, Global>
+    pub(crate) fn into_parts(self) -> Parts<KeptVerifier, Global>
         requires { IsSome self.value }
-        ensures { IfSome self.value (λ judge. result.value ≡ judge) }
+        ensures { IfSome self.value (λ kept. result.value ≡ kept) }
     {
         let Handle { at, alloc } = self;
         Parts {
-            ptr: at as *mut Judge,
+            ptr: at as *mut KeptVerifier,
             alloc,
         }
     }

@@ -7,7 +7,7 @@
 mod calls;
 mod details;
 mod handle;
-mod judge;
+mod kept_verifier;
 mod lists;
 mod numbers;
 mod parts;

@@ -6,7 +6,7 @@ ghost use Rattle.std.specs.Box.{box_value};
 ghost use Rattle.wit_c.specs.Places.{Calls};
 
 use crate::handle::Handle;
-use crate::judge::Judge;
+use crate::kept_verifier::KeptVerifier;
 use crate::numbers::EMPTY_PLACE;
 use crate::parts::Parts;
 use std::alloc::Global;
@@ -31,7 +31,7 @@ impl Place {
 
     /// What it holds is taken out.
     #[inline(always)]
-    pub(crate) fn take(&mut self, alloc: Global) -> Option<Box<Judge, Global>>
+    pub(crate) fn take(&mut self, alloc: Global) -> Option<Box<KeptVerifier, Global>>
         ensures taken { self.old.handle.value ≡ option_map box_value result }
         ensures empty { self.new.handle.value ≡ None }
     {
@@ -48,12 +48,12 @@ impl Place {
 
     /// It holds this from now on.
     #[inline(always)]
-    pub(crate) fn put(&mut self, judge: Box<Judge, Global>)
-        ensures { self.new.handle.value ≡ Some judge.value }
+    pub(crate) fn put(&mut self, kept: Box<KeptVerifier, Global>)
+        ensures { self.new.handle.value ≡ Some kept.value }
     {
         *self = Place {
             full: true,
-            handle: Handle::of(Parts::of(judge)),
+            handle: Handle::of(Parts::of(kept)),
         };
     }
 
@@ -62,12 +62,12 @@ impl Place {
     pub(crate) fn call(&mut self, alloc: Global, seat: SeatNo, call: Call) -> i64
         ensures { Calls seat.0 call self.old.handle.value result self.new.handle.value }
     {
-        let Some(mut judge) = self.take(alloc) else {
+        let Some(mut kept) = self.take(alloc) else {
             return EMPTY_PLACE;
         };
-        let answer = judge.verifier.call(seat, call);
-        let number = judge.keep(answer);
-        self.put(judge);
+        let answer = kept.verifier.call(seat, call);
+        let number = kept.keep(answer);
+        self.put(kept);
         number
     }
 }

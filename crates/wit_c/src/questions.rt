@@ -29,11 +29,11 @@ pub extern "C" fn wit_file(alloc: Global, place: &mut Place, name: &[u8]) -> i64
     ensures { Names (file_name_in name.now)
         place.old.handle.value result place.new.handle.value }
 {
-    let Some(mut judge) = place.take(alloc) else {
+    let Some(mut kept) = place.take(alloc) else {
         return EMPTY_PLACE;
     };
-    let number = judge.name_file(file_name_in(name));
-    place.put(judge);
+    let number = kept.name_file(file_name_in(name));
+    place.put(kept);
     number
 }
 
@@ -50,13 +50,13 @@ pub extern "C" fn wit_assert(
         (step_assert (state_of s) seat lock (record { 0 = flags })))
         place.old.handle.value result place.new.handle.value }
 {
-    let Some(judge) = place.take(alloc) else {
+    let Some(kept) = place.take(alloc) else {
         return EMPTY_PLACE;
     };
-    let answer = judge
+    let answer = kept
         .verifier
         .assert_lock(SeatNo(seat), LockNo(lock), LockAssert(flags));
-    place.put(judge);
+    place.put(kept);
     asserted_number(answer)
 }
 
@@ -85,13 +85,13 @@ pub extern "C" fn wit_warn(
         (step_warn (state_of s) seat (lock_in named) (record { 0 = flags })))
         place.old.handle.value result place.new.handle.value }
 {
-    let Some(judge) = place.take(alloc) else {
+    let Some(kept) = place.take(alloc) else {
         return EMPTY_PLACE;
     };
-    let answer = judge
+    let answer = kept
         .verifier
         .warn(SeatNo(seat), lock_in(named), WarnFlags(flags));
-    place.put(judge);
+    place.put(kept);
     counted_number(answer)
 }
 
@@ -101,11 +101,11 @@ pub extern "C" fn wit_reports(alloc: Global, place: &mut Place) -> i64
     ensures { Asks (λ s n. n ≡ pos (reports_of s.history))
         place.old.handle.value result place.new.handle.value }
 {
-    let Some(judge) = place.take(alloc) else {
+    let Some(kept) = place.take(alloc) else {
         return EMPTY_PLACE;
     };
-    let reports = judge.verifier.reports();
-    place.put(judge);
+    let reports = kept.verifier.reports();
+    place.put(kept);
     reports as i64
 }
 
@@ -115,11 +115,11 @@ pub extern "C" fn wit_watch(alloc: Global, place: &mut Place) -> i64
     ensures { Asks (λ s n. n ≡ watch_number (watch_of s.history))
         place.old.handle.value result place.new.handle.value }
 {
-    let Some(judge) = place.take(alloc) else {
+    let Some(kept) = place.take(alloc) else {
         return EMPTY_PLACE;
     };
-    let watch = judge.verifier.watch();
-    place.put(judge);
+    let watch = kept.verifier.watch();
+    place.put(kept);
     watch_number(watch)
 }
 
@@ -130,13 +130,13 @@ pub extern "C" fn wit_type_of(alloc: Global, place: &mut Place, lock: u32) -> i6
         (lock_type (typed_locks s.start s.history) lock)))
         place.old.handle.value result place.new.handle.value }
 {
-    let Some(judge) = place.take(alloc) else {
+    let Some(kept) = place.take(alloc) else {
         return EMPTY_PLACE;
     };
-    let number = match judge.verifier.type_of(LockNo(lock)) {
+    let number = match kept.verifier.type_of(LockNo(lock)) {
         Some(number) => number.0 as i64,
         None => 0,
     };
-    place.put(judge);
+    place.put(kept);
     number
 }

@@ -8,7 +8,7 @@ ghost use Rattle.wit_model.specs.Rules.State.{fresh};
 ghost use Rattle.wit_c.specs.Numbers.{profile_in};
 ghost use Rattle.wit_c.specs.Starts.{start_in, have_classes, Starts};
 
-use crate::judge::Judge;
+use crate::kept_verifier::KeptVerifier;
 use crate::lists::{BlessedPair, ListedType, have_classes, lists_in, pairs_in};
 use crate::numbers::{FULL_PLACE, NO_SUCH, fault_number};
 use crate::place::Place;
@@ -68,8 +68,8 @@ pub extern "C" fn wit_new(
         return NO_SUCH;
     }
     match begun(alloc, limits, all_held, lists, blessed) {
-        Ok(judge) => {
-            place.put(judge);
+        Ok(kept) => {
+            place.put(kept);
             0
         }
         Err(error) => {
@@ -95,12 +95,12 @@ fn begun(
     all_held: bool,
     lists: &[&[ListedType]],
     blessed: &[BlessedPair],
-) -> Result<Box<Judge, Global>, StartError>
-    ensures accepted { IfOk result (λ judge. start_fault
+) -> Result<Box<KeptVerifier, Global>, StartError>
+    ensures accepted { IfOk result (λ kept. start_fault
         (start_in (profile_in all_held) limits lists.now blessed.now) ≡ None) }
-    ensures fresh { IfOk result (λ judge. judge.value.verifier ≡ fresh
+    ensures fresh { IfOk result (λ kept. kept.value.verifier ≡ fresh
         (start_in (profile_in all_held) limits lists.now blessed.now)) }
-    ensures untold { IfOk result (λ judge. judge.value.last ≡ Ok Pass) }
+    ensures untold { IfOk result (λ kept. kept.value.last ≡ Ok Pass) }
     ensures err { IfErr result (λ e. IsRefused
         (start_in (profile_in all_held) limits lists.now blessed.now) e.list e.fault) }
 {
@@ -111,8 +111,8 @@ fn begun(
     } else {
         Verifier::new(alloc, limits, lists, blessed)?
     };
-    match Box::new(alloc, Judge::new(verifier)) {
-        Ok(judge) => Ok(judge),
+    match Box::new(alloc, KeptVerifier::new(verifier)) {
+        Ok(kept) => Ok(kept),
         Err(_) => Err(StartError {
             list: 0,
             fault: Fault::OutOfMemory,

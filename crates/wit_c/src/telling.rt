@@ -14,7 +14,7 @@ ghost use Rattle.wit_c.specs.Views.{last_text, locks_text, all_locks_text, graph
 ghost use Rattle.wit_c.specs.Views.{TellsWarning, path_types, TellsAssertion, TellsSeats};
 ghost use Rattle.wit_c.specs.Views.{TellsCircleText};
 
-use crate::judge::Judge;
+use crate::kept_verifier::KeptVerifier;
 use crate::numbers::{count_number, fault_number, lock_in};
 use crate::structures::{HeldTold, OrderTold, add_held, steps_told, type_of};
 use std::alloc::{AllocError, Global};
@@ -32,7 +32,7 @@ fn tell<T: Copy>(all: &[T], to: &mut [T]) -> i64
     count_number(all.len())
 }
 
-impl Judge {
+impl KeptVerifier {
     /// What the last answer reports.
     pub(crate) fn tell_last(&self, alloc: Global, to: &mut [u8]) -> i64
         ensures { IsToldOrFails (last_text self.now) to.old result to.new }

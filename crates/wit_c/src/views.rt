@@ -16,11 +16,11 @@ pub extern "C" fn wit_report_text(alloc: Global, place: &mut Place, to: &mut [u8
     ensures { TellsAll last_text to.old to.new
         place.old.handle.value result place.new.handle.value }
 {
-    let Some(judge) = place.take(alloc) else {
+    let Some(kept) = place.take(alloc) else {
         return EMPTY_PLACE;
     };
-    let number = judge.tell_last(alloc, to);
-    place.put(judge);
+    let number = kept.tell_last(alloc, to);
+    place.put(kept);
     number
 }
 
@@ -37,11 +37,11 @@ pub extern "C" fn wit_assert_text(
     ensures { Tells (TellsAssertion seat lock (record { 0 = flags })) to.old to.new
         place.old.handle.value result place.new.handle.value }
 {
-    let Some(judge) = place.take(alloc) else {
+    let Some(kept) = place.take(alloc) else {
         return EMPTY_PLACE;
     };
-    let number = judge.tell_assertion(alloc, SeatNo(seat), LockNo(lock), LockAssert(flags), to);
-    place.put(judge);
+    let number = kept.tell_assertion(alloc, SeatNo(seat), LockNo(lock), LockAssert(flags), to);
+    place.put(kept);
     number
 }
 
@@ -58,11 +58,11 @@ pub extern "C" fn wit_warn_text(
     ensures { Tells (TellsWarning seat named (record { 0 = flags })) to.old to.new
         place.old.handle.value result place.new.handle.value }
 {
-    let Some(judge) = place.take(alloc) else {
+    let Some(kept) = place.take(alloc) else {
         return EMPTY_PLACE;
     };
-    let number = judge.tell_warning(alloc, SeatNo(seat), named, WarnFlags(flags), to);
-    place.put(judge);
+    let number = kept.tell_warning(alloc, SeatNo(seat), named, WarnFlags(flags), to);
+    place.put(kept);
     number
 }
 
@@ -72,11 +72,11 @@ pub extern "C" fn wit_locks_text(alloc: Global, place: &mut Place, seat: u16, to
     ensures { TellsAll (locks_text seat) to.old to.new
         place.old.handle.value result place.new.handle.value }
 {
-    let Some(judge) = place.take(alloc) else {
+    let Some(kept) = place.take(alloc) else {
         return EMPTY_PLACE;
     };
-    let number = judge.tell_locks(alloc, SeatNo(seat), to);
-    place.put(judge);
+    let number = kept.tell_locks(alloc, SeatNo(seat), to);
+    place.put(kept);
     number
 }
 
@@ -86,11 +86,11 @@ pub extern "C" fn wit_all_locks_text(alloc: Global, place: &mut Place, to: &mut 
     ensures { TellsAll all_locks_text to.old to.new
         place.old.handle.value result place.new.handle.value }
 {
-    let Some(judge) = place.take(alloc) else {
+    let Some(kept) = place.take(alloc) else {
         return EMPTY_PLACE;
     };
-    let number = judge.tell_all_locks(alloc, to);
-    place.put(judge);
+    let number = kept.tell_all_locks(alloc, to);
+    place.put(kept);
     number
 }
 
@@ -100,11 +100,11 @@ pub extern "C" fn wit_graph_text(alloc: Global, place: &mut Place, to: &mut [u8]
     ensures { TellsAll graph_text to.old to.new
         place.old.handle.value result place.new.handle.value }
 {
-    let Some(judge) = place.take(alloc) else {
+    let Some(kept) = place.take(alloc) else {
         return EMPTY_PLACE;
     };
-    let number = judge.tell_graph(alloc, to);
-    place.put(judge);
+    let number = kept.tell_graph(alloc, to);
+    place.put(kept);
     number
 }
 
@@ -115,11 +115,11 @@ pub extern "C" fn wit_circle(alloc: Global, place: &mut Place, to: &mut [u16]) -
     ensures { Tells TellsSeats to.old to.new
         place.old.handle.value result place.new.handle.value }
 {
-    let Some(judge) = place.take(alloc) else {
+    let Some(kept) = place.take(alloc) else {
         return EMPTY_PLACE;
     };
-    let number = judge.tell_seats(alloc, to);
-    place.put(judge);
+    let number = kept.tell_seats(alloc, to);
+    place.put(kept);
     number
 }
 
@@ -129,11 +129,11 @@ pub extern "C" fn wit_circle_text(alloc: Global, place: &mut Place, to: &mut [u8
     ensures { Tells TellsCircleText to.old to.new
         place.old.handle.value result place.new.handle.value }
 {
-    let Some(judge) = place.take(alloc) else {
+    let Some(kept) = place.take(alloc) else {
         return EMPTY_PLACE;
     };
-    let number = judge.tell_circle(alloc, to);
-    place.put(judge);
+    let number = kept.tell_circle(alloc, to);
+    place.put(kept);
     number
 }
 
@@ -150,10 +150,10 @@ pub extern "C" fn wit_path(
     ensures { TellsAll (path_types from goal) to.old to.new
         place.old.handle.value result place.new.handle.value }
 {
-    let Some(judge) = place.take(alloc) else {
+    let Some(kept) = place.take(alloc) else {
         return EMPTY_PLACE;
     };
-    let number = judge.tell_path(alloc, TypeNo(from), TypeNo(goal), to);
-    place.put(judge);
+    let number = kept.tell_path(alloc, TypeNo(from), TypeNo(goal), to);
+    place.put(kept);
     number
 }

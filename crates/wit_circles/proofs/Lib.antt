@@ -5,4 +5,5 @@ pub mod Meeting
 pub mod OneByOne
 pub mod Parted
 pub mod Rows
+pub mod Three
 pub mod Ways

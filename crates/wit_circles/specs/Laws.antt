@@ -32,3 +32,24 @@ JudgedIsParted = (orders : List Order) (told : Told) → Judged [] orders told �
 -- so where nothing is told there is no circle
 abbrev pub NothingToldIsFree : Type 0
 NothingToldIsFree = (orders : List Order) → Judged [] orders [] → HaveNoCircle orders
+
+-- ---- such orders
+
+abbrev pub order : ℕ → ℕ → Order
+order a b = record { from = a; to = b }
+
+-- A before B, B before C, and C before A
+abbrev pub round : List Order
+round = order 0 1 ∷ order 1 2 ∷ order 2 0 ∷ []
+
+-- C before A, with the way back: from A to B, and from B to C
+abbrev pub told_last : Told
+told_last = (order 2 0, 1 ∷ 2 ∷ []) ∷ []
+
+-- of the first two nothing is told, so they are kept. Of all three just the last one is told, which
+-- closes a circle with these
+pub record ThreeAreMet : Type 0 where
+  pub two : Judged [] (order 0 1 ∷ order 1 2 ∷ []) []
+  pub judged : Judged [] round told_last
+  pub alone : (told : Told) → Judged [] round told → orders_told told ≡ order 2 0 ∷ []
+  pub circle : IsWay round 0 (1 ∷ 2 ∷ 0 ∷ []) 0

@@ -1,3 +1,4 @@
+pub mod Example
 pub mod Keys
 pub mod Last
 pub mod Lines

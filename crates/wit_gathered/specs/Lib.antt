@@ -1,5 +1,6 @@
 pub mod Asking
 pub mod Entries
+pub mod Example
 pub mod Gathering
 pub mod Holds
 pub mod Laws

@@ -1,3 +1,4 @@
+pub mod Example
 pub mod Further
 pub mod Keys
 pub mod Spelled

@@ -22,10 +22,10 @@ use Rattle.wit_import.specs.Outputs.{Seen, after_asking, nothing_seen, seen_afte
 abbrev pub line_text : Line → List ℕ
 line_text line = spelling line ++ 10 ∷ []
 
-abbrev seat : SeatNo
+abbrev pub seat : SeatNo
 seat = record { 0 = 1 }
 
-abbrev lock : ℕ → LockNo
+abbrev pub lock : ℕ → LockNo
 lock n = record { 0 = n }
 
 -- on lock n, and by an acquisition, these lines of a trace are written, and no other

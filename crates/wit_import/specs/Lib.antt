@@ -1,4 +1,5 @@
 pub mod Blocks
+pub mod Example
 pub mod Held
 pub mod Importing
 pub mod Laws

@@ -1,5 +1,5 @@
 -- No pair of types is lost as the trace is told of what is kept.
-use Rattle.std.specs.Prelude.{ℕ, ◌≡◌, ◌≤◌, true, List, ◌∷◌, ◌++◌, Some, length}
+use Rattle.std.specs.Prelude.{◌≡◌, ◌≤◌, true, List, ◌∷◌, ◌++◌, Some, length}
 use Rattle.wit_gathered.specs.declared.requests.Kept.{Kept}
 use Rattle.wit_gathered.specs.declared.requests.Kept.TheVariants as kept
 use Rattle.wit_gathered.specs.declared.requests.Step.{Step}

@@ -1,3 +1,4 @@
 pub mod Acquisitions
+pub mod Example
 pub mod Laws
 pub mod Outputs

@@ -2,6 +2,7 @@ pub mod Acquiring
 pub mod Calls
 pub mod Contexts
 pub mod Doings
+pub mod Examples
 pub mod Heads
 pub mod Kprobes
 pub mod Lines

@@ -6,6 +6,7 @@ mod contexts;
 mod events;
 mod heads;
 mod kprobes;
+pub mod laws;
 mod lines;
 mod lockdep;
 mod lttng;

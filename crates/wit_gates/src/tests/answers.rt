@@ -103,5 +103,7 @@ fn words_tell_what_is_out(rt: HostRuntime) -> Result<(), Fail> {
     let (word, turn) = Word::new(rt.alloc())?;
     let alone = hold_of(&rt, &word, &InTurn::Open(&turn));
     assert_eq!(rt; word.into_word_with(alone), 4_294_967_295);
+    let (word, _turn) = Word::new(rt.alloc())?;
+    assert_eq!(rt; word.into_word(), 0, "nobody had it");
     Ok(())
 }

@@ -11,8 +11,8 @@ use Rattle.std_heap.specs.contracts.GlobalAllocator.TheImpl.{ghosts}
 use Rattle.std_heap.proofs.GlobalAllocator.TheSendSync.{the_frees}
 use Rattle.std_heap.proofs.Global.TheSendSync.{the_field_send as global_send}
 use Rattle.wit_c.specs.Owned.{owned}
-use Rattle.wit_c.specs.contracts.judge.Judge.{the_row as R}
-use Rattle.wit_c.proofs.judge.Judge.TheSendSync.{the_send as value_send}
+use Rattle.wit_c.specs.contracts.kept_verifier.KeptVerifier.{the_row as R}
+use Rattle.wit_c.proofs.kept_verifier.KeptVerifier.TheSendSync.{the_send as value_send}
 use Rattle.wit_c.specs.contracts.handle.Handle.{the_row, the_type}
 
 owned_keyless : (a : Global) (p : Ptr) (o : Option R.Denot) → Keyless (owned (ghosts.dealloc_token a) R p o)

@@ -21,7 +21,7 @@ use denote.Triple.Walked.{Stays, stay_dropped, walk_of}
 use Rattle.core.proofs.alloc.Calls.{Goes-blank}
 use Rattle.std.proofs.raw_atomic.Walks.{proved_at, leaves}
 use Rattle.std_heap.specs.contracts.GlobalAllocator.TheImpl.{ghosts}
-use Rattle.wit_c.specs.contracts.judge.Judge.{the_row as R}
+use Rattle.wit_c.specs.contracts.kept_verifier.KeptVerifier.{the_row as R}
 use Rattle.wit_c.proofs.Values.{Parts, Handle, both, parts_in, handle_out, heap_good, ptr_good, parts_good, handle_good}
 use Rattle.wit_c.specs.contracts.handle.Handle.into_parts.{ended, clauses}
 use Rattle.wit_c.specs.contracts.handle.Handle.into_parts.Key.{name as #self}

@@ -1,7 +1,7 @@
 use Rattle.std.proofs.Common.{◌≡◌, ℤ, sym, subst, arith, to_z, of_z, w64, to_z-of_z}
 use Rattle.wit_c.specs.Views.{TellsCircleText}
 use Rattle.wit_c.proofs.Circles.{circle_told}
-use Rattle.wit_c.proofs.judge.Judge.tell_circle.Goals as goal
+use Rattle.wit_c.proofs.kept_verifier.KeptVerifier.tell_circle.Goals as goal
 
 pub returns-in-Ok-Some : goal.returns-in-Ok-Some
 returns-in-Ok-Some c =

@@ -1,7 +1,7 @@
 use Rattle.std.proofs.Common.{◌≡◌, ℤ, sym, subst, ◌∙◌, arith, to_z, of_z, w64, to_z-of_z}
 use Rattle.wit_c.specs.Views.{TellsSeats}
 use Rattle.wit_c.proofs.Circles.{seats_told}
-use Rattle.wit_c.proofs.judge.Judge.tell_seats.Goals as goal
+use Rattle.wit_c.proofs.kept_verifier.KeptVerifier.tell_seats.Goals as goal
 
 pub returns-in-Ok : goal.returns-in-Ok
 returns-in-Ok c =

@@ -17,18 +17,18 @@ use wit_model::{Class, Fault, LockFlags, Reply, SeatNo};
 
 /// A verifier, with its answer to the last call that it logs or refuses, of which a report tells.
 #[derive(Drop)]
-pub struct Judge {
+pub struct KeptVerifier {
     pub(crate) verifier: Verifier,
     pub(crate) last: Result<Reply, Fault>,
 }
 
-impl Judge {
+impl KeptVerifier {
     // One that has answered nothing: there is nothing to report.
-    pub(crate) fn new(verifier: Verifier) -> Judge
+    pub(crate) fn new(verifier: Verifier) -> KeptVerifier
         ensures verifier { result.verifier ≡ verifier }
         ensures last { result.last ≡ Ok Pass }
     {
-        Judge {
+        KeptVerifier {
             verifier,
             last: Ok(Reply::Pass),
         }
