@@ -69,10 +69,5 @@ pub fn write_sarif<W: Write>(
         → Keeps (W.contents output.old) (W.contents output.new) }
 {
     let log = sarif_log(alloc, findings)?;
-    for piece in &log {
-        if output.write_all(piece.as_slice()).is_err() {
-            return Err(DocumentError::Write);
-        }
-    }
-    Ok(())
+    log.write(output)
 }

@@ -9,6 +9,7 @@ mod items;
 mod kinds;
 mod lines;
 mod locations;
+mod log;
 mod members;
 mod outline;
 pub mod places;

@@ -2,6 +2,7 @@
 
 use crate::kinds::{Kind, RULES, kind_of};
 use crate::locations::{Sources, put_message};
+use crate::log::Log;
 use crate::members::{begin, close, close_list, open, open_list, put_item, put_text, put_truth};
 use crate::outline::Outline;
 use crate::reading::{item, list, words};
@@ -10,21 +11,20 @@ use crate::uris::put_uri;
 use json::{Pretty, Scratch, Token, Value};
 use std::alloc::{AllocError, Global};
 
-/// The JSON report as a log of SARIF, with one run and a line feed at its end. It is in pieces, of which none has room
-/// for more than itself.
+/// The JSON report as a log of SARIF, with one run and a line feed at its end.
 ///
 /// # Errors
 /// Want of memory alone, as of all that follow.
-pub(crate) fn sarif_log(alloc: Global, findings: &Outline<'_>) -> Result<Vec<Vec<u8>>, AllocError> {
+pub(crate) fn sarif_log(alloc: Global, findings: &Outline<'_>) -> Result<Log, AllocError> {
     let files = files_of(alloc, findings)?;
     let sources = Sources {
         folder: findings.text("directory"),
         files: files.as_slice(),
     };
-    let mut log = Vec::new(alloc);
-    log.push(beginning(alloc, findings)?)?;
+    let mut log = Log::new(alloc)?;
+    log.add(alloc, beginning(alloc, findings)?, 0)?;
     let is_any = add_results(&mut log, alloc, &sources, findings)?;
-    log.push(ending(alloc, is_any)?)?;
+    log.add(alloc, ending(alloc, is_any)?, frame_length(alloc, is_any)?)?;
     Ok(log)
 }
 
@@ -58,22 +58,22 @@ fn beginning(alloc: Global, findings: &Outline<'_>) -> Result<Vec<u8>, AllocErro
     }
     put_invocation(&mut out, alloc, findings)?;
     open_list(&mut out, "results")?;
-    piece_behind(alloc, 0, out)
+    Ok(out.into_inner())
 }
 
-// What stands behind the last result, where there is any.
+// What stands behind the last result, where there is any, in its frame.
 fn ending(alloc: Global, is_any: bool) -> Result<Vec<u8>, AllocError> {
     let mut out = frame(alloc, is_any)?;
     close_list(&mut out)?;
     close(&mut out)?;
     close_list(&mut out)?;
     close(&mut out)?;
-    let mut piece = piece_behind(alloc, frame_length(alloc, is_any)?, out)?;
-    piece.push(b'\n')?;
-    Ok(piece)
+    let mut text = out.into_inner();
+    text.push(b'\n')?;
+    Ok(text)
 }
 
-// As much as a result is laid out by: how deep it stands, and whether another one stands before it.
+// The frame by which a result is laid out: how deep it stands, and whether another one stands before it.
 fn frame(alloc: Global, is_any: bool) -> Result<Pretty, AllocError> {
     let mut out = Pretty::new(alloc);
     begin(&mut out)?;
@@ -91,18 +91,9 @@ fn frame_length(alloc: Global, is_any: bool) -> Result<usize, AllocError> {
     Ok(text.len())
 }
 
-// What stands behind so many bytes.
-fn piece_behind(alloc: Global, length: usize, out: Pretty) -> Result<Vec<u8>, AllocError> {
-    let text = out.into_inner();
-    match text.as_slice().get(length..) {
-        Some(piece) => Vec::from_slice(alloc, piece),
-        None => Ok(Vec::new(alloc)),
-    }
-}
-
-// The results, each as a piece. Whether there is one.
+// The results. Whether there is one.
 fn add_results(
-    log: &mut Vec<Vec<u8>>,
+    log: &mut Log,
     alloc: Global,
     sources: &Sources<'_, '_>,
     findings: &Outline<'_>,
@@ -119,7 +110,7 @@ fn add_results(
             let repeats = count_equal(before.as_slice(), fingerprint);
             let mut out = frame(alloc, is_any)?;
             put_result(&mut out, alloc, sources, &report, ignore, repeats)?;
-            log.push(piece_behind(alloc, frame_length(alloc, is_any)?, out)?)?;
+            log.add(alloc, out.into_inner(), frame_length(alloc, is_any)?)?;
             is_any = true;
         }
         before.push(String::from_str(alloc, fingerprint)?)?;
