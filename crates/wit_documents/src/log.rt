@@ -1,6 +1,6 @@
 //! A log in the making: all of it is there before the first byte of it is written.
 
-ghost use Rattle.std.specs.Prelude.{◌≢◌, ◌+◌, ◌*◌, ◌≤◌, length, Err};
+ghost use Rattle.std.specs.Prelude.{◌≢◌, ◌+◌, ◌*◌, ◌<◌, ◌≤◌, length, Err};
 ghost use Rattle.wit_documents.specs.declared.document.DocumentError.TheVariants.{Memory};
 
 use crate::document::DocumentError;
@@ -42,12 +42,11 @@ impl Log {
         text: Vec<u8>,
         left_out: usize,
     ) -> Result<(), AllocError> {
-        let mut piece = Vec::new(alloc);
         if let Some(rest) = text.as_slice().get(left_out..) {
+            let mut piece = Vec::with_capacity(alloc, squeezed_length(rest))?;
             squeeze(&mut piece, rest)?;
+            self.pieces.push(piece)?;
         }
-        piece.shrink_to_fit();
-        self.pieces.push(piece)?;
         Ok(())
     }
 
@@ -66,20 +65,38 @@ impl Log {
     }
 }
 
+// How many bytes are kept of the text.
+fn squeezed_length(text: &[u8]) -> usize {
+    let (mut at, mut length): (usize, usize) = (0, 0);
+    while at < text.len() {
+        at = kept_of(text, at).1;
+        length = length.saturating_add(1);
+    }
+    length
+}
+
+// Adds the text as it is kept.
 fn squeeze(to: &mut Vec<u8>, text: &[u8]) -> Result<(), AllocError> {
     let mut at = 0;
     while at < text.len() {
-        let byte = text[at];
-        at += 1;
-        if byte == b'\n' {
-            let depth = depth_at(text, at);
-            to.push(depth as u8)?;
-            at += 2 * depth;
-        } else {
-            to.push(byte)?;
-        }
+        let (byte, next) = kept_of(text, at);
+        to.push(byte)?;
+        at = next;
     }
     Ok(())
+}
+
+// The byte that is kept of what stands there, and where the next one begins.
+fn kept_of(text: &[u8], at: usize) -> (u8, usize)
+    requires { at < length text.now }
+    ensures behind { at < result.1 }
+    ensures within { result.1 ≤ length text.now }
+{
+    if text[at] != b'\n' {
+        return (text[at], at + 1);
+    }
+    let depth = depth_at(text, at + 1);
+    (depth as u8, at + 1 + 2 * depth)
 }
 
 // How many pairs of spaces stand there.
