@@ -210,6 +210,12 @@ void *calloc(size_t count, size_t size)
     return refuses() ? refuse() : taken(real_calloc(count, size));
 }
 
+/* Whether a block gets smaller, which is no growth. A block may have some bytes more than were asked for. */
+static int is_smaller(size_t size, size_t had)
+{
+    return size + 32 <= had;
+}
+
 void *realloc(void *place, size_t size)
 {
     if (real_realloc == NULL)
@@ -220,9 +226,10 @@ void *realloc(void *place, size_t size)
             memcpy(other, place, size < 256 ? size : 256);
         return other;
     }
-    if (refuses())
+    size_t had = place != NULL ? malloc_usable_size(place) : 0;
+    if (!is_smaller(size, had) && refuses())
         return refuse();
-    long before = place != NULL && counts ? (long)malloc_usable_size(place) : 0;
+    long before = counts ? (long)had : 0;
     void *got = real_realloc(place, size);
     if (got != NULL) {
         atomic_fetch_sub(&used, before);

@@ -218,6 +218,8 @@ if wanted outputs; then
         fits kinds.sarif "$here/outputs/sarif-2.1.0.schema.json" && fits odd.sarif "$here/outputs/sarif-2.1.0.schema.json" &&
             fits many.sarif "$here/outputs/sarif-2.1.0.schema.json"
         tell outputs "SARIF by the part of its schema" $?
+        python3 "$check" laid kinds.sarif && python3 "$check" laid odd.sarif && python3 "$check" laid many.sarif
+        tell outputs "a log is laid out as one, with no result, with one and with several" $?
         python3 "$check" same kinds.json moved.json && python3 "$check" same kinds.sarif moved.sarif &&
             ! python3 "$check" same kinds.json other.json >/dev/null
         tell outputs "fingerprints last where lines move, and not where functions and locks are others" $?

@@ -1,14 +1,13 @@
 //! The JSON report that a document is made of.
 
-ghost use Rattle.std.specs.Prelude.{◌≡◌, ◌≢◌, IfOk, Some, Err};
+ghost use Rattle.std.specs.Prelude.{◌≡◌, IfOk, IsSome, Err};
 ghost use Rattle.std.specs.Io.KnownBytes.{Keeps};
 ghost use Rattle.json.specs.Json.{document};
-ghost use Rattle.json.specs.Value.{value_view};
 ghost use Rattle.wit_documents.specs.declared.document.DocumentError.TheVariants as DocumentError;
 
-use crate::reading::words;
-use crate::sarif::put_sarif;
-use json::{Error, Pretty, Scratch, Value};
+use crate::outline::Outline;
+use crate::sarif::sarif_log;
+use json::{Scratch, is_valid};
 use std::alloc::{AllocError, Global};
 use std::io::Write;
 
@@ -34,27 +33,26 @@ impl From<AllocError> for DocumentError {
     }
 }
 
-/// The report that the text is.
+/// The report that the text is. Its lists are read item by item.
 ///
 /// # Errors
 /// `NoReport` where it is no JSON, or hasn't the format of a report; `Memory` where a growth was refused.
-pub fn report_of<'a>(
-    alloc: Global,
-    text: &'a [u8],
-    scratch: &'a mut Scratch,
-) -> Result<Value<'a>, DocumentError>
-    ensures { IfOk result (λ findings. document text.now ≡ Some (value_view findings)) }
+pub fn report_of<'a>(alloc: Global, bytes: &'a [u8]) -> Result<Outline<'a>, DocumentError>
+    ensures { IfOk result
+        (λ findings. (findings.text.now ≡ bytes.now) × IsSome (document bytes.now)) }
 {
-    match Value::from_slice(alloc, text, scratch) {
-        Ok(findings) => {
-            if words(&findings, "format") == "record-findings" {
-                Ok(findings)
-            } else {
-                Err(DocumentError::NoReport)
-            }
-        }
-        Err(Error::OutOfMemory) => Err(DocumentError::Memory),
-        Err(_) => Err(DocumentError::NoReport),
+    let Ok(text) = std::str::from_utf8(bytes) else {
+        return Err(DocumentError::NoReport);
+    };
+    let mut scratch = Scratch::new(alloc);
+    if !is_valid(text, &mut scratch)? {
+        return Err(DocumentError::NoReport);
+    }
+    let findings = Outline::of(alloc, text, &mut scratch)?;
+    if findings.words("format") == "record-findings" {
+        Ok(findings)
+    } else {
+        Err(DocumentError::NoReport)
     }
 }
 
@@ -64,23 +62,12 @@ pub fn report_of<'a>(
 /// `Memory` where a growth was refused: then nothing was written. `Write` where it can't be written.
 pub fn write_sarif<W: Write>(
     alloc: Global,
-    findings: &Value<'_>,
+    findings: &Outline<'_>,
     output: &mut W,
 ) -> Result<(), DocumentError>
     ensures { result ≡ Err DocumentError.Memory
         → Keeps (W.contents output.old) (W.contents output.new) }
 {
     let log = sarif_log(alloc, findings)?;
-    match output.write_all(log.as_slice()) {
-        Ok(()) => Ok(()),
-        Err(_) => Err(DocumentError::Write),
-    }
-}
-
-fn sarif_log(alloc: Global, findings: &Value<'_>) -> Result<Vec<u8>, AllocError> {
-    let mut out = Pretty::new(alloc);
-    put_sarif(&mut out, alloc, findings)?;
-    let mut log = out.into_inner();
-    log.push(b'\n')?;
-    Ok(log)
+    log.write(output)
 }

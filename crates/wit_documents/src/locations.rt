@@ -1,9 +1,10 @@
 //! Places as SARIF has them.
 
 use crate::members::{begin, close, close_list, open, open_list, put_number, put_text};
+use crate::outline::Outline;
 use crate::places::{has_line, is_place};
 use crate::plain::put_plain;
-use crate::reading::{digits, text, words};
+use crate::reading::{digits, words};
 use crate::uris::put_uri;
 use json::{Pretty, Value};
 use std::alloc::{AllocError, Global};
@@ -12,9 +13,9 @@ use std::alloc::{AllocError, Global};
 #[derive(Clone, Copy, Drop)]
 pub(crate) struct Sources<'v, 'a> {
     /// The folder in which names begin that aren't absolute.
-    pub(crate) folder: Option<&'a str>,
+    pub(crate) folder: Option<&'v str>,
     /// The files, with their own names.
-    pub(crate) files: &'v [Value<'a>],
+    pub(crate) files: &'v [Outline<'a>],
 }
 
 /// What is said of a location besides its place.
@@ -125,10 +126,10 @@ fn put_artifact(
 }
 
 // The file's own name, without steps up and links, where it is there.
-fn own_name<'n>(files: &'n [Value<'_>], file: &'n str) -> &'n str {
+fn own_name<'n>(files: &'n [Outline<'_>], file: &'n str) -> &'n str {
     for each in files {
-        if words(each, "file") == file {
-            return match text(each, "path") {
+        if each.words("file") == file {
+            return match each.text("path") {
                 Some(path) => path,
                 None => file,
             };

@@ -2,11 +2,10 @@
 
 use crate::arrows::{Arrow, arrows_of_process, arrows_of_report};
 use crate::graph::{Drawn, put_graph};
-use json::Value;
+use json::Scratch;
 use std::alloc::Global;
 use std::io::Write;
-use wit_documents::DocumentError;
-use wit_documents::reading::list;
+use wit_documents::{DocumentError, Outline};
 
 // So many processes have a picture in a page.
 const PICTURES_MOST: usize = 8;
@@ -17,11 +16,14 @@ const PICTURES_MOST: usize = 8;
 /// `Memory` where a growth was refused, `Write` where it can't be written: what was written is a beginning of it.
 pub fn write_dot<W: Write>(
     alloc: Global,
-    findings: &Value<'_>,
+    findings: &Outline<'_>,
     output: &mut W,
 ) -> Result<(), DocumentError> {
-    for process in list(findings, "processes") {
-        let arrows = arrows_of_process(alloc, process)?;
+    let processes = findings.list("processes");
+    let mut scratch = Scratch::new(alloc);
+    for number in 0..processes.len() {
+        let process = processes.read(alloc, number, &mut scratch)?;
+        let arrows = arrows_of_process(alloc, &process)?;
         write_graph(alloc, arrows.as_slice(), Drawn::Orders, output)?;
     }
     Ok(())
@@ -35,19 +37,21 @@ pub fn write_dot<W: Write>(
 /// As of `write_dot`.
 pub fn write_pictures<W: Write>(
     alloc: Global,
-    findings: &Value<'_>,
+    findings: &Outline<'_>,
     output: &mut W,
 ) -> Result<(), DocumentError> {
-    for report in list(findings, "reports") {
-        let arrows = arrows_of_report(alloc, report)?;
+    let reports = findings.list("reports");
+    let mut scratch = Scratch::new(alloc);
+    for number in 0..reports.len() {
+        let report = reports.read(alloc, number, &mut scratch)?;
+        let arrows = arrows_of_report(alloc, &report)?;
         write_graph(alloc, arrows.as_slice(), Drawn::Few, output)?;
     }
-    let processes = list(findings, "processes");
-    for number in 0..processes.len() {
-        if number < PICTURES_MOST {
-            let arrows = arrows_of_process(alloc, &processes[number])?;
-            write_graph(alloc, arrows.as_slice(), Drawn::Few, output)?;
-        }
+    let processes = findings.list("processes");
+    for number in 0..processes.len().min(PICTURES_MOST) {
+        let process = processes.read(alloc, number, &mut scratch)?;
+        let arrows = arrows_of_process(alloc, &process)?;
+        write_graph(alloc, arrows.as_slice(), Drawn::Few, output)?;
     }
     Ok(())
 }

@@ -2,7 +2,7 @@
 
 use crate::locks::{put_error, put_locks, put_steps};
 use crate::markup::Markup;
-use crate::orders::put_picture_of;
+use crate::orders::{picture_of, put_picture};
 use crate::schedule::put_schedule;
 use crate::waits::put_waits;
 use crate::wheres::Shown;
@@ -26,7 +26,7 @@ pub(crate) struct Card<'v, 'a> {
     /// What its places are looked up in.
     pub(crate) shown: Shown<'v, 'a>,
     /// The types of all reports, by which they are found.
-    pub(crate) types: &'v [&'a str],
+    pub(crate) types: &'v [String],
 }
 
 /// The card.
@@ -52,7 +52,7 @@ pub(crate) fn put_card(
     put_error(to, alloc, card)?;
     put_plain_lines(to, report)?;
     put_schedule(to, alloc, &card.shown, report)?;
-    put_picture_of(to, "Picture of the report", report)?;
+    put_picture(to, "Picture of the report", &picture_of(report))?;
     if !truth(report, "silenced") {
         put_advice(to, report)?;
     }
@@ -117,9 +117,9 @@ fn put_types(to: &mut Markup, alloc: Global, card: &Card<'_, '_>) -> Result<(), 
 }
 
 // The place of the type among all; behind them all where it isn't there.
-fn number_of(types: &[&str], name: &str) -> usize {
+fn number_of(types: &[String], name: &str) -> usize {
     for number in 0..types.len() {
-        if types[number] == name {
+        if types[number].as_str() == name {
             return number;
         }
     }
@@ -209,16 +209,23 @@ fn put_plain_lines(to: &mut Markup, report: &Value<'_>) -> Result<(), AllocError
     to.tag("</ul>\n")
 }
 
-/// Texts as items of a list.
-pub(crate) fn put_items(to: &mut Markup, lines: &[Value<'_>]) -> Result<(), AllocError> {
+fn put_items(to: &mut Markup, lines: &[Value<'_>]) -> Result<(), AllocError> {
     for each in lines {
-        if let Some(line) = each.as_str() {
-            to.tag("<li>")?;
-            to.text(line)?;
-            to.tag("</li>\n")?;
-        }
+        put_item(to, each)?;
     }
     Ok(())
+}
+
+/// A text as an item of a list.
+pub(crate) fn put_item(to: &mut Markup, line: &Value<'_>) -> Result<(), AllocError> {
+    match line.as_str() {
+        Some(line) => {
+            to.tag("<li>")?;
+            to.text(line)?;
+            to.tag("</li>\n")
+        }
+        None => Ok(()),
+    }
 }
 
 fn put_advice(to: &mut Markup, report: &Value<'_>) -> Result<(), AllocError> {

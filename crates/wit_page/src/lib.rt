@@ -3,7 +3,9 @@
 #![tactic(auto)]
 
 mod cards;
+mod contents;
 mod escapes;
+mod graphs;
 mod list;
 mod locks;
 mod looks;
@@ -12,6 +14,7 @@ mod orders;
 mod page;
 mod schedule;
 mod sections;
+mod sources;
 mod threads;
 mod waits;
 mod wheres;

@@ -1,10 +1,12 @@
 //! All reports as a list, with links to their cards.
 
 use crate::markup::Markup;
-use json::Value;
+use crate::sections::Known;
+use json::{Scratch, Value};
 use std::alloc::{AllocError, Global};
+use std::io::Write;
 use wit_documents::reading::{list, member, text, truth, words};
-use wit_documents::{is_confirmed, kind_of};
+use wit_documents::{DocumentError, is_confirmed, kind_of};
 
 // Of more types of a report the first are named.
 const TYPES_SHOWN: usize = 8;
@@ -12,17 +14,19 @@ const TYPES_SHOWN: usize = 8;
 /// The list; nothing where there is no report.
 ///
 /// # Errors
-/// Want of memory alone, as of all that follow.
-pub(crate) fn put_list(
+/// As of the page.
+pub(crate) fn write_list<W: Write>(
     to: &mut Markup,
     alloc: Global,
-    reports: &[Value<'_>],
-) -> Result<(), AllocError> {
+    known: &Known<'_, '_>,
+    output: &mut W,
+) -> Result<(), DocumentError> {
+    let reports = known.findings.list("reports");
     if reports.is_empty() {
         return Ok(());
     }
     to.tag("<section id='all'><h2>All reports</h2>\n<p class='legend'>")?;
-    to.number(alloc, count_counted(reports))?;
+    to.number(alloc, known.contents.counted)?;
     to.tag(" of ")?;
     to.number(alloc, reports.len())?;
     to.tag(
@@ -31,22 +35,17 @@ pub(crate) fn put_list(
     to.tag(
         "<div class='wide' tabindex='0' role='region' aria-label='All reports'><table>\n<thead><tr><th>Report</th><th>Kind</th><th>Types</th><th>Single locks</th><th>Counts</th></tr></thead>\n<tbody>\n",
     )?;
+    let mut scratch = Scratch::new(alloc);
     for number in 0..reports.len() {
-        put_entry(to, alloc, &reports[number], number + 1)?;
+        let report = reports.read(alloc, number, &mut scratch)?;
+        put_entry(to, alloc, &report, number + 1)?;
+        to.hand_over_much(output)?;
     }
-    to.tag("</tbody></table></div>\n</section>\n")
+    to.tag("</tbody></table></div>\n</section>\n")?;
+    Ok(())
 }
 
-fn count_counted(reports: &[Value<'_>]) -> usize {
-    let mut count: usize = 0;
-    for each in reports {
-        if truth(each, "counts") {
-            count = count.saturating_add(1);
-        }
-    }
-    count
-}
-
+// Want of memory alone, as of all that follow.
 fn put_entry(
     to: &mut Markup,
     alloc: Global,

@@ -10,6 +10,9 @@ use std::alloc::{AllocError, Global};
 use std::io::Write;
 use wit_documents::{DocumentError, put_uri};
 
+// So much is handed over in the middle of a list or a table.
+const MUCH: usize = 32768;
+
 /// Markup, which is handed over as it grows.
 #[derive(Drop)]
 pub struct Markup {
@@ -62,6 +65,17 @@ impl Markup {
     /// Adds the text byte by byte as a URI has it.
     pub fn uri(&mut self, text: &str) -> Result<(), AllocError> {
         put_uri(&mut self.text, text)
+    }
+
+    /// Writes what there is, where it is much.
+    ///
+    /// # Errors
+    /// As of the next one.
+    pub(crate) fn hand_over_much<W: Write>(&mut self, output: &mut W) -> Result<(), DocumentError> {
+        if self.text.len() < MUCH {
+            return Ok(());
+        }
+        self.hand_over(output)
     }
 
     /// Writes what there is, which is forgotten.

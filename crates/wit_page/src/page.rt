@@ -1,68 +1,51 @@
 //! The page as a whole.
 
-use crate::cards::put_items;
-use crate::list::put_list;
+use crate::cards::put_item;
+use crate::contents::Contents;
+use crate::list::write_list;
 use crate::looks::LOOKS;
 use crate::markup::Markup;
-use crate::orders::put_orders;
-use crate::sections::{Section, count_in, write_reports};
-use crate::threads::put_threads;
+use crate::orders::write_orders;
+use crate::sections::{Known, Section, write_reports};
+use crate::sources::sources_of;
+use crate::threads::write_threads;
 use crate::workings::WORKINGS;
-use json::Value;
+use json::Scratch;
 use std::alloc::{AllocError, Global};
 use std::io::Write;
-use wit_documents::reading::{list, text, words};
-use wit_documents::{DocumentError, KINDS, Kind};
+use wit_documents::{DocumentError, Items, KINDS, Kind, Outline};
 
-/// Writes the page of a report. It is handed over card by card.
+/// Writes the page of a report. It is handed over card by card, and each report is read where it is written: once for
+/// the list, and once for its card.
 ///
 /// # Errors
 /// `Memory` where a growth was refused, `Write` where it can't be written: what was written is a beginning of it.
 pub fn write_page<W: Write>(
     alloc: Global,
-    findings: &Value<'_>,
+    findings: &Outline<'_>,
     output: &mut W,
 ) -> Result<(), DocumentError> {
-    let reports = list(findings, "reports");
-    let types = types_of(alloc, reports)?;
+    let contents = Contents::of(alloc, findings.list("reports"))?;
+    let sources = sources_of(alloc, findings)?;
+    let known = Known {
+        findings,
+        contents: &contents,
+        sources: sources.as_slice(),
+    };
     let mut to = Markup::new(alloc);
     put_beginning(&mut to, findings)?;
-    put_header(&mut to, alloc, findings)?;
-    put_list(&mut to, alloc, reports)?;
-    put_finder(&mut to, alloc, reports, &types)?;
-    write_reports(&mut to, alloc, &*findings, &types, output)?;
-    put_orders(&mut to, alloc, list(findings, "processes"))?;
+    put_header(&mut to, alloc, &known)?;
+    write_list(&mut to, alloc, &known, output)?;
+    put_finder(&mut to, alloc, &known)?;
+    write_reports(&mut to, alloc, &known, output)?;
+    write_orders(&mut to, alloc, findings.list("processes"), output)?;
     to.hand_over(output)?;
-    put_threads(&mut to, list(findings, "processes"))?;
-    put_end(&mut to, findings)?;
+    write_threads(&mut to, alloc, findings.list("processes"), output)?;
+    put_end(&mut to, alloc, findings)?;
     to.hand_over(output)
 }
 
-// The types of all reports, each once.
-fn types_of<'a>(alloc: Global, reports: &[Value<'a>]) -> Result<Vec<&'a str>, AllocError> {
-    let mut types = Vec::new(alloc);
-    for report in reports {
-        for each in list(report, "types") {
-            add_type(&mut types, each)?;
-        }
-    }
-    Ok(types)
-}
-
-fn add_type<'a>(types: &mut Vec<&'a str>, each: &Value<'a>) -> Result<(), AllocError> {
-    let Some(name) = each.as_str() else {
-        return Ok(());
-    };
-    for known in types.as_slice() {
-        if *known == name {
-            return Ok(());
-        }
-    }
-    types.push(name)?;
-    Ok(())
-}
-
-fn put_beginning(to: &mut Markup, findings: &Value<'_>) -> Result<(), AllocError> {
+fn put_beginning(to: &mut Markup, findings: &Outline<'_>) -> Result<(), AllocError> {
     to.tag("<!DOCTYPE html>\n<html lang='en'>\n<head>\n<meta charset='utf-8'>\n")?;
     // By their sums the browser knows the page's own script and looks: it runs no other, and fetches nothing.
     to.tag(
@@ -71,34 +54,34 @@ fn put_beginning(to: &mut Markup, findings: &Value<'_>) -> Result<(), AllocError
     to.tag(
         "<meta name='viewport' content='width=device-width, initial-scale=1'>\n<meta name='color-scheme' content='light dark'>\n<link rel='icon' href='data:,'>\n<title>Lock orders of ",
     )?;
-    to.text(words(findings, "program"))?;
+    to.text(findings.words("program"))?;
     to.tag("</title>\n<style>")?;
     to.tag(LOOKS)?;
     to.tag("</style>\n</head>\n<body>\n<a class='skip' href='#main'>To the reports</a>\n")
 }
 
-fn put_header(to: &mut Markup, alloc: Global, findings: &Value<'_>) -> Result<(), AllocError> {
-    let reports = list(findings, "reports");
+fn put_header(to: &mut Markup, alloc: Global, known: &Known<'_, '_>) -> Result<(), AllocError> {
+    let (findings, contents) = (known.findings, known.contents);
     to.tag("<header>\n<h1>Lock orders of ")?;
-    to.code(words(findings, "program"))?;
+    to.code(findings.words("program"))?;
     to.tag("</h1>\n")?;
     put_origin(to, findings)?;
     to.tag("<p class='summary'>")?;
-    to.text(words(findings, "summary"))?;
+    to.text(findings.words("summary"))?;
     to.tag("</p>\n<nav aria-label='Contents'><ul class='contents'>\n")?;
     put_entry(
         to,
         alloc,
         "<li><a href='#all'>All reports</a> (",
-        reports.len(),
+        findings.list("reports").len(),
     )?;
-    let circles = count_in(reports, Section::Circles);
+    let circles = contents.count_in(Section::Circles);
     put_entry(to, alloc, "<li><a href='#circles'>Circles</a> (", circles)?;
-    let plain = count_in(reports, Section::Reports);
+    let plain = contents.count_in(Section::Reports);
     put_entry(to, alloc, "<li><a href='#reports'>Reports</a> (", plain)?;
-    let errors = count_in(reports, Section::Errors);
+    let errors = contents.count_in(Section::Errors);
     put_entry(to, alloc, "<li><a href='#errors'>Errors</a> (", errors)?;
-    let silenced = count_in(reports, Section::Silenced);
+    let silenced = contents.count_in(Section::Silenced);
     put_entry(
         to,
         alloc,
@@ -125,33 +108,29 @@ fn put_entry(
 }
 
 // Which command made the report, of which version, when, and what it ran.
-fn put_origin(to: &mut Markup, findings: &Value<'_>) -> Result<(), AllocError> {
+fn put_origin(to: &mut Markup, findings: &Outline<'_>) -> Result<(), AllocError> {
     to.tag("<p class='origin'>")?;
-    to.text(words(findings, "command"))?;
-    if let Some(version) = text(findings, "record") {
+    to.text(findings.words("command"))?;
+    if let Some(version) = findings.text("record") {
         to.tag(" ")?;
         to.text(version)?;
     }
-    if let Some(ended) = text(findings, "ended_here") {
+    if let Some(ended) = findings.text("ended_here") {
         to.tag(", ")?;
         to.text(ended)?;
     }
-    if let Some(run) = text(findings, "words") {
+    if let Some(run) = findings.text("words") {
         to.tag(": ")?;
         to.code(run)?;
     }
     to.tag("</p>\n")
 }
 
-fn put_finder(
-    to: &mut Markup,
-    alloc: Global,
-    reports: &[Value<'_>],
-    types: &[&str],
-) -> Result<(), AllocError> {
-    if reports.is_empty() {
+fn put_finder(to: &mut Markup, alloc: Global, known: &Known<'_, '_>) -> Result<(), AllocError> {
+    if known.findings.list("reports").is_empty() {
         return Ok(());
     }
+    let types = known.contents.types.as_slice();
     to.tag(
         "<div class='finder' role='search' aria-label='Find reports'>\n<label class='words'>Words: types, locks, files, functions<input type='search' id='words' autocomplete='off'></label>\n<label>Kind<select id='kind'><option value=''>all</option>\n",
     )?;
@@ -167,18 +146,27 @@ fn put_finder(
         to.tag("<option value='")?;
         to.number(alloc, number)?;
         to.tag("'>")?;
-        to.text(types[number])?;
+        to.text(types[number].as_str())?;
         to.tag("</option>\n")?;
     }
     to.tag("</select></label>\n<p class='count' id='count' role='status'></p>\n</div>\n")
 }
 
-fn put_end(to: &mut Markup, findings: &Value<'_>) -> Result<(), AllocError> {
+fn put_end(to: &mut Markup, alloc: Global, findings: &Outline<'_>) -> Result<(), AllocError> {
     to.tag("<section id='told'><h2>What was told</h2>\n<ul class='told'>\n")?;
-    put_items(to, list(findings, "told"))?;
+    put_told(to, alloc, findings.list("told"))?;
     to.tag("</ul></section>\n</main>\n<footer><p>The page ")?;
-    to.text(words(findings, "command"))?;
+    to.text(findings.words("command"))?;
     to.tag("(1) says what the last line means.</p></footer>\n<script>")?;
     to.tag(WORKINGS)?;
     to.tag("</script>\n</body>\n</html>\n")
+}
+
+fn put_told(to: &mut Markup, alloc: Global, told: Items<'_>) -> Result<(), AllocError> {
+    let mut scratch = Scratch::new(alloc);
+    for number in 0..told.len() {
+        let line = told.read(alloc, number, &mut scratch)?;
+        put_item(to, &line)?;
+    }
+    Ok(())
 }

@@ -118,7 +118,7 @@ fn put_row(
     for before in 0..columns {
         if before + 1 == count(row, "column") {
             put_deed(to, alloc, rows, row)?;
-            put_line(to, shown, row)?;
+            put_line(to, alloc, shown, row)?;
             to.tag("</td>")?;
         } else {
             to.tag("<td></td>")?;

@@ -1,7 +1,8 @@
 //! Where something was: the place, who was there, the source around it, and the callers.
 
 use crate::markup::Markup;
-use json::Value;
+use crate::sources::{Source, source_of};
+use json::{Scratch, Value};
 use std::alloc::{AllocError, Global};
 use wit_documents::places::{has_line, is_code, is_place, place_name};
 use wit_documents::reading::{count, digits, item, list, member, text, truth, words};
@@ -13,7 +14,7 @@ const AROUND: u64 = 3;
 #[derive(Clone, Copy, Drop)]
 pub(crate) struct Shown<'v, 'a> {
     /// The sources, with lines of theirs.
-    pub(crate) sources: &'v [Value<'a>],
+    pub(crate) sources: &'v [Source<'a>],
     /// Whether it is known when the report's program was built.
     pub(crate) is_built: bool,
 }
@@ -43,7 +44,7 @@ pub(crate) fn put_where(
         put_thread(to, thread)?;
     }
     to.tag("</p>\n")?;
-    put_source(to, shown, place)?;
+    put_source(to, alloc, shown, place)?;
     put_callers(to, alloc, callers)
 }
 
@@ -92,7 +93,12 @@ fn put_made(to: &mut Markup, thread: &Value<'_>, made: &str) -> Result<(), Alloc
     to.code(made)
 }
 
-fn put_source(to: &mut Markup, shown: &Shown<'_, '_>, place: &Value<'_>) -> Result<(), AllocError> {
+fn put_source(
+    to: &mut Markup,
+    alloc: Global,
+    shown: &Shown<'_, '_>,
+    place: &Value<'_>,
+) -> Result<(), AllocError> {
     if !is_place(place) {
         return Ok(());
     }
@@ -101,13 +107,12 @@ fn put_source(to: &mut Markup, shown: &Shown<'_, '_>, place: &Value<'_>) -> Resu
             "<p class='nosource'>Its line isn't known: the object has no debug information, or nothing reads it.</p>\n",
         );
     }
-    let line = count(place, "line");
-    match source_of(shown.sources, words(place, "file")) {
-        Some(source) if line_of(source, line).is_some() => {
-            put_excerpt(to, source, line)?;
+    match line_of(shown, place) {
+        Some((source, number)) => {
+            put_excerpt(to, alloc, source, number)?;
             put_newer(to, shown, source)
         }
-        _ => to.tag("<p class='nosource'>Its source isn't here.</p>\n"),
+        None => to.tag("<p class='nosource'>Its source isn't here.</p>\n"),
     }
 }
 
@@ -117,26 +122,30 @@ fn put_source(to: &mut Markup, shown: &Shown<'_, '_>, place: &Value<'_>) -> Resu
 /// Want of memory alone.
 pub(crate) fn put_line(
     to: &mut Markup,
+    alloc: Global,
     shown: &Shown<'_, '_>,
     place: &Value<'_>,
 ) -> Result<(), AllocError> {
     if !has_line(place) {
         return Ok(());
     }
-    let Some(source) = source_of(shown.sources, words(place, "file")) else {
+    let Some((source, number)) = line_of(shown, place) else {
         return Ok(());
     };
-    let Some(row) = line_of(source, count(place, "line")) else {
-        return Ok(());
-    };
+    let mut scratch = Scratch::new(alloc);
+    let row = source.lines().read(alloc, number, &mut scratch)?;
     to.tag("<code class='line'>")?;
-    to.text(words(row, "text"))?;
+    to.text(words(&row, "text"))?;
     to.tag("</code>")?;
     put_newer(to, shown, source)
 }
 
-fn put_newer(to: &mut Markup, shown: &Shown<'_, '_>, source: &Value<'_>) -> Result<(), AllocError> {
-    if shown.is_built && truth(source, "newer") {
+fn put_newer(
+    to: &mut Markup,
+    shown: &Shown<'_, '_>,
+    source: &Source<'_>,
+) -> Result<(), AllocError> {
+    if shown.is_built && source.is_newer() {
         return to.tag(
             "<p class='nosource'>The file is newer than the program: its lines may have moved.</p>\n",
         );
@@ -144,48 +153,43 @@ fn put_newer(to: &mut Markup, shown: &Shown<'_, '_>, source: &Value<'_>) -> Resu
     Ok(())
 }
 
-fn source_of<'v, 'a>(sources: &'v [Value<'a>], file: &str) -> Option<&'v Value<'a>> {
-    for each in sources {
-        if words(each, "file") == file {
-            return Some(each);
-        }
+// The source of the place, and which of its lines the place is in.
+fn line_of<'v, 'a>(shown: &Shown<'v, 'a>, place: &Value<'_>) -> Option<(&'v Source<'a>, usize)> {
+    let Some(source) = source_of(shown.sources, words(place, "file")) else {
+        return None;
+    };
+    match source.place_of(count(place, "line")) {
+        Some(number) => Some((source, number)),
+        None => None,
     }
-    None
-}
-
-fn line_of<'v, 'a>(source: &'v Value<'a>, line: u64) -> Option<&'v Value<'a>> {
-    for each in list(source, "lines") {
-        if count(each, "line") == line {
-            return Some(each);
-        }
-    }
-    None
 }
 
 fn is_near(number: u64, line: u64) -> bool {
     number <= line.saturating_add(AROUND) && line <= number.saturating_add(AROUND)
 }
 
-fn put_excerpt(to: &mut Markup, source: &Value<'_>, line: u64) -> Result<(), AllocError> {
+// The lines around that one of the source.
+fn put_excerpt(
+    to: &mut Markup,
+    alloc: Global,
+    source: &Source<'_>,
+    at: usize,
+) -> Result<(), AllocError> {
+    let (lines, numbers) = (source.lines(), source.numbers());
+    let line = if at < numbers.len() { numbers[at] } else { 0 };
+    let mut scratch = Scratch::new(alloc);
     to.tag("<pre class='source' tabindex='0' role='region' aria-label='")?;
-    to.text(words(source, "file"))?;
+    to.text(source.file())?;
     to.tag(", around its line ")?;
-    put_line_number(to, source, line)?;
+    put_digits(to, &lines.read(alloc, at, &mut scratch)?)?;
     to.tag("'><code>")?;
-    for each in list(source, "lines") {
-        let number = count(each, "line");
-        if is_near(number, line) {
-            put_row(to, each, number == line)?;
+    for place in 0..numbers.len() {
+        if is_near(numbers[place], line) {
+            let row = lines.read(alloc, place, &mut scratch)?;
+            put_row(to, &row, numbers[place] == line)?;
         }
     }
     to.tag("</code></pre>\n")
-}
-
-fn put_line_number(to: &mut Markup, source: &Value<'_>, line: u64) -> Result<(), AllocError> {
-    match line_of(source, line) {
-        Some(row) => put_digits(to, row),
-        None => Ok(()),
-    }
 }
 
 fn put_digits(to: &mut Markup, row: &Value<'_>) -> Result<(), AllocError> {

@@ -11,7 +11,7 @@ use wit_documents::{Line, LineKind};
 ///
 /// # Errors
 /// Want of memory alone, as of all that follow.
-pub(crate) fn put_callers(to: &mut Lines<'_>, lines: &[Line<'_, '_>]) -> Result<bool, AllocError> {
+pub(crate) fn put_callers(to: &mut Lines, lines: &[Line<'_, '_>]) -> Result<bool, AllocError> {
     let mut is_any = false;
     for number in 0..lines.len() {
         let line = &lines[number];
@@ -36,7 +36,7 @@ fn is_visited(place: &Value<'_>) -> bool {
 }
 
 fn put_place(
-    to: &mut Lines<'_>,
+    to: &mut Lines,
     before: &[Line<'_, '_>],
     line: &Line<'_, '_>,
     place: &Value<'_>,
@@ -99,7 +99,7 @@ fn without_type<'a>(heading: &'a str, kind: &str, class: &str) -> &'a str {
 
 // The thread, with its name and who made it where the report names it first, and further on with its name.
 fn put_thread(
-    to: &mut Lines<'_>,
+    to: &mut Lines,
     before: &[Line<'_, '_>],
     place: &Value<'_>,
 ) -> Result<(), AllocError> {
@@ -131,7 +131,7 @@ fn is_named(before: &[Line<'_, '_>], number: Option<&str>) -> bool {
     false
 }
 
-fn put_name(to: &mut Lines<'_>, thread: &Value<'_>) -> Result<(), AllocError> {
+fn put_name(to: &mut Lines, thread: &Value<'_>) -> Result<(), AllocError> {
     let Some(name) = text(thread, "name") else {
         return Ok(());
     };
@@ -140,7 +140,7 @@ fn put_name(to: &mut Lines<'_>, thread: &Value<'_>) -> Result<(), AllocError> {
     to.own(")")
 }
 
-fn put_label(to: &mut Lines<'_>, thread: &Value<'_>) -> Result<(), AllocError> {
+fn put_label(to: &mut Lines, thread: &Value<'_>) -> Result<(), AllocError> {
     let Some(made) = text(thread, "made") else {
         return put_name(to, thread);
     };
@@ -154,7 +154,7 @@ fn put_label(to: &mut Lines<'_>, thread: &Value<'_>) -> Result<(), AllocError> {
 }
 
 // A place without a line has the function itself.
-fn put_maker(to: &mut Lines<'_>, thread: &Value<'_>, made: &str) -> Result<(), AllocError> {
+fn put_maker(to: &mut Lines, thread: &Value<'_>, made: &str) -> Result<(), AllocError> {
     if let Some(place) = text(thread, "made_in") {
         to.own("made in ")?;
         return to.text(place);
@@ -169,7 +169,7 @@ fn put_maker(to: &mut Lines<'_>, thread: &Value<'_>, made: &str) -> Result<(), A
     to.text(made)
 }
 
-fn put_frame(to: &mut Lines<'_>, frame: &Value<'_>) -> Result<(), AllocError> {
+fn put_frame(to: &mut Lines, frame: &Value<'_>) -> Result<(), AllocError> {
     to.begin()?;
     to.own("  ")?;
     match text(frame, "function") {

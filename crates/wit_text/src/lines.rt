@@ -9,17 +9,20 @@ use std::alloc::{AllocError, Global};
 use std::io::Write;
 use wit_documents::DocumentError;
 
+// So much is handed over between two lines.
+const MUCH: usize = 32768;
+
 /// Lines, which are handed over as they grow.
 #[derive(Drop)]
-pub(crate) struct Lines<'a> {
+pub(crate) struct Lines {
     text: String,
     /// The number of the process whose lines follow; `None` where they are of the whole run.
-    pub(crate) speaker: Option<&'a str>,
+    pub(crate) speaker: Option<String>,
 }
 
-impl<'a> Lines<'a> {
+impl Lines {
     /// None yet.
-    pub(crate) fn new(alloc: Global) -> Lines<'a> {
+    pub(crate) fn new(alloc: Global) -> Lines {
         Lines {
             text: String::new(alloc),
             speaker: None,
@@ -47,11 +50,11 @@ impl<'a> Lines<'a> {
 
     /// Begins a line, by the number of the process that speaks.
     pub(crate) fn begin(&mut self) -> Result<(), AllocError> {
-        match self.speaker {
+        match &self.speaker {
             Some(number) => {
-                self.own("==")?;
-                self.text(number)?;
-                self.own("== ")
+                self.text.push_str("==")?;
+                put_shown(&mut self.text, number.as_str())?;
+                self.text.push_str("== ")
             }
             None => Ok(()),
         }
@@ -67,6 +70,17 @@ impl<'a> Lines<'a> {
         self.begin()?;
         self.text(text)?;
         self.end()
+    }
+
+    /// Writes what there is, where it is much.
+    ///
+    /// # Errors
+    /// As of the next one.
+    pub(crate) fn hand_over_much<W: Write>(&mut self, output: &mut W) -> Result<(), DocumentError> {
+        if self.text.len() < MUCH {
+            return Ok(());
+        }
+        self.hand_over(output)
     }
 
     /// Writes what there is, which is forgotten.

@@ -18,7 +18,7 @@ pub(crate) fn is_told(report: &Value<'_>) -> bool {
 /// # Errors
 /// Want of memory alone, as of all that follow.
 pub(crate) fn put_report(
-    to: &mut Lines<'_>,
+    to: &mut Lines,
     alloc: Global,
     report: &Value<'_>,
 ) -> Result<(), AllocError> {
@@ -38,7 +38,7 @@ pub(crate) fn put_report(
     }
 }
 
-fn put_single(to: &mut Lines<'_>, single: &Value<'_>) -> Result<(), AllocError> {
+fn put_single(to: &mut Lines, single: &Value<'_>) -> Result<(), AllocError> {
     let told = words(single, "text");
     if !told.is_empty() {
         to.line(told)?;
@@ -49,7 +49,7 @@ fn put_single(to: &mut Lines<'_>, single: &Value<'_>) -> Result<(), AllocError> 
     }
 }
 
-fn put_schedule(to: &mut Lines<'_>, schedule: &Value<'_>) -> Result<(), AllocError> {
+fn put_schedule(to: &mut Lines, schedule: &Value<'_>) -> Result<(), AllocError> {
     let told = words(schedule, "text");
     if told.is_empty() {
         return Ok(());

@@ -2,91 +2,122 @@
 
 use crate::lines::Lines;
 use crate::reports::{is_told, put_report};
-use crate::told::Told;
-use json::Value;
+use crate::told::{Told, digits_of};
+use json::{Scratch, Value};
 use std::alloc::{AllocError, Global};
 use std::io::Write;
-use wit_documents::DocumentError;
 use wit_documents::reading::{item, list, words};
+use wit_documents::{DocumentError, Outline};
 
 /// Writes what `record` told of a run: each report that isn't ignored, and then what was told besides, the summary
 /// last. Where several processes were told of, each line of one begins with its number, and what was told of it comes
-/// before what was told of the next one. It is handed over report by report.
+/// before what was told of the next one. It is handed over report by report, and each report is read where it is
+/// written.
 ///
 /// # Errors
 /// `Memory` where a growth was refused, `Write` where it can't be written: what was written is a beginning of it.
 pub fn write_text<W: Write>(
     alloc: Global,
-    findings: &Value<'_>,
+    findings: &Outline<'_>,
     output: &mut W,
 ) -> Result<(), DocumentError> {
-    let told = Told {
-        command: words(findings, "command"),
-        processes: list(findings, "processes"),
-        lines: list(findings, "told"),
-    };
+    let told = Told::of(alloc, findings)?;
+    let reports = findings.list("reports");
     let mut to = Lines::new(alloc);
+    let mut scratch = Scratch::new(alloc);
+    let mut before = None;
     let mut passed = 0;
-    let mut before: Option<&Value<'_>> = None;
-    for report in list(findings, "reports") {
-        if !is_told(report) {
+    for number in 0..reports.len() {
+        let report = reports.read(alloc, number, &mut scratch)?;
+        if !is_told(&report) {
             continue;
         }
-        if told.is_of_several() {
-            passed = put_process(&mut to, &told, before, report, passed)?;
+        if told.is_of_several {
+            let teller = teller_of(alloc, &report)?;
+            passed = put_told_before(&mut to, alloc, &told, &teller, passed)?;
+            put_heading(&mut to, told.command, &before, &teller)?;
+            before = Some(teller);
         }
-        put_report(&mut to, alloc, report)?;
+        put_report(&mut to, alloc, &report)?;
         to.hand_over(output)?;
-        before = Some(report);
     }
     for number in passed..told.lines.len() {
-        told.put_line(&mut to, number)?;
+        told.put_line(&mut to, alloc, number)?;
+        to.hand_over_much(output)?;
     }
     to.hand_over(output)
 }
 
-// The number of the process that told the report: the first that has it.
-fn teller_of<'a>(report: &Value<'a>) -> Option<&'a str> {
+// Who told a report: the first process that has it, and that one's program.
+#[derive(Drop)]
+struct Teller {
+    number: Option<String>,
+    program: String,
+}
+
+fn teller_of(alloc: Global, report: &Value<'_>) -> Result<Teller, AllocError> {
+    Ok(Teller {
+        number: copy_of(alloc, number_of(report))?,
+        program: String::from_str(alloc, words(report, "program"))?,
+    })
+}
+
+fn number_of<'a>(report: &Value<'a>) -> Option<&'a str> {
     match item(list(report, "processes"), 0) {
         Some(process) => process.as_number(),
         None => None,
     }
 }
 
-// What was told of processes before that of the report, and its heading where the report before is of another one. How
-// many lines were told by then.
-fn put_process<'a>(
-    to: &mut Lines<'a>,
-    told: &Told<'_, 'a>,
-    before: Option<&Value<'a>>,
-    report: &Value<'a>,
+fn copy_of(alloc: Global, text: Option<&str>) -> Result<Option<String>, AllocError> {
+    match text {
+        Some(text) => Ok(Some(String::from_str(alloc, text)?)),
+        None => Ok(None),
+    }
+}
+
+// What was told of processes before the one that told the report, whose lines follow. How many lines were told by then.
+fn put_told_before(
+    to: &mut Lines,
+    alloc: Global,
+    told: &Told<'_>,
+    teller: &Teller,
     passed: usize,
 ) -> Result<usize, AllocError> {
-    let speaker = teller_of(report);
-    let end = match speaker {
-        Some(process) => told.end_before(passed, process),
+    let end = match &teller.number {
+        Some(process) => told.end_before(alloc, passed, process.as_str())?,
         None => passed,
     };
     for number in passed..end {
-        told.put_line(to, number)?;
+        told.put_line(to, alloc, number)?;
     }
-    to.speaker = speaker;
-    if !is_of_same(before, report) {
-        to.begin()?;
-        to.text(told.command)?;
-        to.own(": ")?;
-        to.text(words(report, "program"))?;
-        to.own(":")?;
-        to.end()?;
-    }
+    to.speaker = copy_of(alloc, digits_of(&teller.number))?;
     Ok(end)
 }
 
-fn is_of_same(before: Option<&Value<'_>>, report: &Value<'_>) -> bool {
+// The heading of a report, where the report before is of another process.
+fn put_heading(
+    to: &mut Lines,
+    command: &str,
+    before: &Option<Teller>,
+    teller: &Teller,
+) -> Result<(), AllocError> {
+    if is_of_same(before, teller) {
+        return Ok(());
+    }
+    to.begin()?;
+    to.text(command)?;
+    to.own(": ")?;
+    to.text(teller.program.as_str())?;
+    to.own(":")?;
+    to.end()
+}
+
+fn is_of_same(before: &Option<Teller>, teller: &Teller) -> bool {
     match before {
         Some(other) => {
-            teller_of(other) == teller_of(report)
-                && words(other, "program") == words(report, "program")
+            digits_of(&other.number) == digits_of(&teller.number)
+                && other.program.as_str() == teller.program.as_str()
         }
         None => false,
     }

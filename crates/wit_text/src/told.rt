@@ -1,70 +1,85 @@
 //! What was told besides the reports, line by line.
 
 use crate::lines::Lines;
-use json::Value;
-use std::alloc::AllocError;
-use wit_documents::reading::{digits, item};
+use json::{Scratch, Value};
+use std::alloc::{AllocError, Global};
+use wit_documents::{Items, Outline};
 
 /// What is told of, and by whom.
-#[derive(Clone, Copy, Drop)]
-pub(crate) struct Told<'v, 'a> {
+#[derive(Drop)]
+pub(crate) struct Told<'a> {
     /// The command that told it.
     pub(crate) command: &'a str,
-    /// The processes, in the sequence in which they were told of.
-    pub(crate) processes: &'v [Value<'a>],
     /// The lines.
-    pub(crate) lines: &'v [Value<'a>],
+    pub(crate) lines: Items<'a>,
+    // The numbers of the processes, in the sequence in which they were told of.
+    processes: Vec<Option<String>>,
+    /// Whether several processes were told of: their lines begin with their numbers then.
+    pub(crate) is_of_several: bool,
 }
 
-impl<'v, 'a> Told<'v, 'a> {
-    /// Whether several processes were told of: their lines begin with their numbers then.
-    pub(crate) fn is_of_several(&self) -> bool {
-        let processes = self.processes;
-        for process in processes {
-            if digits(process, "process") != digits(&processes[0], "process") {
-                return true;
-            }
-        }
-        false
+impl<'a> Told<'a> {
+    /// What the report tells.
+    ///
+    /// # Errors
+    /// Want of memory alone, as of all that follow.
+    pub(crate) fn of(alloc: Global, findings: &'a Outline<'_>) -> Result<Told<'a>, AllocError> {
+        let processes = numbers_of(alloc, findings.list("processes"))?;
+        let is_of_several = differ(processes.as_slice());
+        Ok(Told {
+            command: findings.words("command"),
+            lines: findings.list("told"),
+            processes,
+            is_of_several,
+        })
     }
 
     /// The line, from that number on, before which all are of processes that come before this one.
-    pub(crate) fn end_before(&self, from: usize, process: &str) -> usize {
+    pub(crate) fn end_before(
+        &self,
+        alloc: Global,
+        from: usize,
+        process: &str,
+    ) -> Result<usize, AllocError> {
         let lines = self.lines;
+        let mut scratch = Scratch::new(alloc);
         for number in from..lines.len() {
-            match speaker_of(&lines[number]) {
+            let line = lines.read(alloc, number, &mut scratch)?;
+            match speaker_of(&line) {
                 Some((speaker, _)) if self.comes_before(speaker, process) => {}
-                _ => return number,
+                _ => return Ok(number),
             }
         }
-        lines.len()
+        Ok(lines.len())
     }
 
     fn comes_before(&self, one: &str, other: &str) -> bool {
-        for process in self.processes {
-            let number = digits(process, "process");
-            if number == Some(other) {
-                return false;
-            }
-            if number == Some(one) {
-                return true;
+        for process in &self.processes {
+            if let Some(number) = process {
+                if number.as_str() == other {
+                    return false;
+                }
+                if number.as_str() == one {
+                    return true;
+                }
             }
         }
         false
     }
 
     /// Adds the line of that number.
-    ///
-    /// # Errors
-    /// Want of memory alone, as of all that follow.
-    pub(crate) fn put_line(&self, to: &mut Lines<'a>, number: usize) -> Result<(), AllocError> {
-        let Some(line) = item(self.lines, number) else {
-            return Ok(());
-        };
+    pub(crate) fn put_line(
+        &self,
+        to: &mut Lines,
+        alloc: Global,
+        number: usize,
+    ) -> Result<(), AllocError> {
+        let mut scratch = Scratch::new(alloc);
+        let line = self.lines.read(alloc, number, &mut scratch)?;
         to.speaker = None;
-        match speaker_of(line) {
-            Some((speaker, rest)) if self.is_of_several() => {
-                to.speaker = Some(speaker);
+        match speaker_of(&line) {
+            Some((speaker, rest)) if self.is_of_several => {
+                to.speaker = Some(String::from_str(alloc, speaker)?);
                 self.put_words(to, rest)
             }
             _ => match line.as_str() {
@@ -74,7 +89,7 @@ impl<'v, 'a> Told<'v, 'a> {
         }
     }
 
-    fn put_words(&self, to: &mut Lines<'a>, words: &str) -> Result<(), AllocError> {
+    fn put_words(&self, to: &mut Lines, words: &str) -> Result<(), AllocError> {
         if is_bare(words) {
             return to.line(words);
         }
@@ -83,6 +98,36 @@ impl<'v, 'a> Told<'v, 'a> {
         to.own(": ")?;
         to.text(words)?;
         to.end()
+    }
+}
+
+fn numbers_of(alloc: Global, processes: Items<'_>) -> Result<Vec<Option<String>>, AllocError> {
+    let mut numbers = Vec::new(alloc);
+    for number in 0..processes.len() {
+        let process = processes.outline(alloc, number)?;
+        numbers.push(match process.digits("process") {
+            Some(digits) => Some(String::from_str(alloc, digits)?),
+            None => None,
+        })?;
+    }
+    Ok(numbers)
+}
+
+// Whether one is another than the first.
+fn differ(numbers: &[Option<String>]) -> bool {
+    for number in numbers {
+        if digits_of(number) != digits_of(&numbers[0]) {
+            return true;
+        }
+    }
+    false
+}
+
+/// The digits of a number that may not be known.
+pub(crate) fn digits_of(number: &Option<String>) -> Option<&str> {
+    match number {
+        Some(digits) => Some(digits.as_str()),
+        None => None,
     }
 }
 

@@ -6,10 +6,9 @@ ghost use Rattle.witness.specs.Program.{IsWrittenOrRefused};
 
 use crate::command::Form;
 use crate::program::Ended;
-use json::{Scratch, Value};
 use std::alloc::Global;
 use std::io::{ErrorKind, Read, Write};
-use wit_documents::{DocumentError, report_of, write_sarif};
+use wit_documents::{DocumentError, Outline, report_of, write_sarif};
 use wit_dot::{write_dot, write_pictures};
 use wit_page::write_page;
 use wit_stream::ReplayError;
@@ -33,8 +32,7 @@ pub fn write_document<R: Read + Drop, W: Write, N: Write>(
         (W.contents output.old) (W.contents output.new)) }
 {
     let text = read_whole(alloc, input)?;
-    let mut scratch = Scratch::new(alloc);
-    match report_of(alloc, text.as_slice(), &mut scratch) {
+    match report_of(alloc, text.as_slice()) {
         Ok(findings) => write_form(alloc, form, &findings, output),
         Err(DocumentError::NoReport) => {
             let _ = writeln!(notes, "witness: the input is no JSON report of record");
@@ -44,14 +42,17 @@ pub fn write_document<R: Read + Drop, W: Write, N: Write>(
     }
 }
 
-// All that the reader gives.
+// All that the reader gives, in a room that has no more.
 fn read_whole<R: Read + Drop>(alloc: Global, input: R) -> Result<Vec<u8>, ReplayError>
     ensures { IfOk result (λ text. IfSome (R.remaining input) (λ bytes. text.items ≡ bytes)) }
 {
     let mut input = input;
     let mut text = Vec::new(alloc);
     match input.read_to_end(&mut text) {
-        Ok(_) => Ok(text),
+        Ok(_) => {
+            text.shrink_to_fit();
+            Ok(text)
+        }
         Err(error) => match error.kind() {
             ErrorKind::OutOfMemory => Err(ReplayError::Memory),
             _ => Err(ReplayError::Read),
@@ -62,7 +63,7 @@ fn read_whole<R: Read + Drop>(alloc: Global, input: R) -> Result<Vec<u8>, Replay
 fn write_form<W: Write>(
     alloc: Global,
     form: Form,
-    findings: &Value<'_>,
+    findings: &Outline<'_>,
     output: &mut W,
 ) -> Result<Ended, ReplayError>
     ensures { IfOk result (λ ended. ended ≡ Exits 0) }

@@ -3,6 +3,7 @@
 
   schema SCHEMA FILE     JSON that meets the schema; status 77 where there is no jsonschema
   json FILE, sarif FILE  what kinds.case has, by hand
+  laid FILE              JSON with a line for each member and item, two blanks a level, as Python lays it out
   same FILE FILE         the reports of both have the same fingerprints, and no two of one file
   odd PAGE JSON SARIF    the texts of odd.case, as texts
   page FILE              the page is whole: its elements, names, references; nothing comes from outside
@@ -120,6 +121,12 @@ def sarif(path):
     want("notifications", [(each["level"], each["message"]["text"]) for each in notes], [
         ("note", "bank: not recorded: 80 types (a trace has room for 1,023)"),
         ("note", "4 reports, 2 circles, 2 processes"), ("error", "witness exhausted")])
+
+
+def laid(path):
+    with open(path, encoding="utf-8") as file:
+        text = file.read()
+    want("as it is laid out", text == json.dumps(json.loads(text), indent=2, ensure_ascii=False) + "\n", True)
 
 
 def fingerprints(path):
@@ -349,7 +356,7 @@ def contrast(path):
 
 
 def main():
-    what = {"schema": schema, "json": findings, "sarif": sarif, "same": same, "page": page, "shown": shown, "odd": odd, "is": value,
+    what = {"schema": schema, "json": findings, "sarif": sarif, "laid": laid, "same": same, "page": page, "shown": shown, "odd": odd, "is": value,
             "picture": picture, "schedule": schedule, "contrast": contrast}[sys.argv[1]]
     what(*sys.argv[2:])
     for fault in faults:

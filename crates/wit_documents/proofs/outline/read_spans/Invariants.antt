@@ -1,0 +1,8 @@
+use Rattle.std.proofs.Common.{◌≤◌, length}
+use Rattle.wit_documents.proofs.outline.read_spans.Given as goal
+
+abbrev pub invariant-loop-reader : goal.invariant-loop-reader
+invariant-loop-reader l = length l.reader ≤ length l.initial.reader
+
+abbrev pub decreases-loop-reader : goal.decreases-loop-reader
+decreases-loop-reader l = length l.reader
