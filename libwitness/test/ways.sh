@@ -102,6 +102,8 @@ if wanted prove; then
     tell prove "and not once more" $?
     touch proving/crates/wit_c/src/lib.rt && prove && prove && [ "$(wc -l <asked)" -eq 2 ]
     tell prove "once more where a source of it is newer" $?
+    touch proving/recorder/runtime/locks.c && prove && [ proving/libwitness/out/libwitness.a -nt proving/recorder/runtime/locks.c ]
+    tell prove "the library is built once more where a source of the recorder's is newer" $?
     printf '#!/bin/sh\necho the goal is open\nexit 1\n' >bin/rt && touch proving/crates/wit_c/src/lib.rt && prove
     [ $? -eq 1 ] && [ "$(sed -n 1p err)" = "libwitness: proving and building its verifier: three minutes on four processors" ] &&
         grep -qx 'the goal is open' err
