@@ -36,7 +36,7 @@ impl From<AllocError> for DocumentError {
 /// The report that the text is. Its lists are read item by item.
 ///
 /// # Errors
-/// `NoReport` where it is no JSON, or hasn't the format of a report; `Memory` where a growth was refused.
+/// `NoReport` where it is no JSON, or hasn't the format of a report, or is of another version than 1; `Memory` where a growth was refused.
 pub fn report_of<'a>(alloc: Global, bytes: &'a [u8]) -> Result<Outline<'a>, DocumentError>
     ensures { IfOk result
         (λ findings. (findings.text.now ≡ bytes.now) × IsSome (document bytes.now)) }
@@ -49,10 +49,18 @@ pub fn report_of<'a>(alloc: Global, bytes: &'a [u8]) -> Result<Outline<'a>, Docu
         return Err(DocumentError::NoReport);
     }
     let findings = Outline::of(alloc, text, &mut scratch)?;
-    if findings.words("format") == "record-findings" {
+    if findings.words("format") == "record-findings" && is_known(findings.digits("version")) {
         Ok(findings)
     } else {
         Err(DocumentError::NoReport)
+    }
+}
+
+// A later version may have other members, or mean others by them.
+fn is_known(version: Option<&str>) -> bool {
+    match version {
+        Some(version) => version == "1",
+        None => true,
     }
 }
 
