@@ -226,7 +226,10 @@ static void tell_releases(struct process *process)
     unsigned long releases;
     if (!stream_count(&process->stream, "releases", &releases) || releases == 0)
         return;
-    say(&run->output, "%s: %lu releases by threads that did not hold the lock:", process->name, releases);
+    if (releases == 1)
+        say(&run->output, "%s: 1 release by a thread that did not hold the lock:", process->name);
+    else
+        say(&run->output, "%s: %lu releases by threads that did not hold the lock:", process->name, releases);
     for (size_t i = 0; i < process->notes.events; i++) {
         const struct event *event = &process->notes.event[i];
         if (event->kind != EVENT_FOREIGN)
