@@ -442,6 +442,14 @@ void locks_freed(const void *block)
     aside(free_locks_in, &(struct block){at, end});
 }
 
+bool type_label_was_met(const struct type *type)
+{
+    for (uint32_t i = 1; i < type->number; i++)
+        if (types[i].label && labels_part(types[i].label, type->label))
+            return true;
+    return false;
+}
+
 uint32_t lock_youngest(void)
 {
     return atomic_load_explicit(&serials, memory_order_relaxed);

@@ -535,6 +535,8 @@ void object_gone(uintptr_t from, uintptr_t to);
 void lock_given_up(struct lock *lock);
 /* The serial number of the youngest lock; and those up to that one which were there are gone. Nothing is read there. */
 uint32_t lock_youngest(void);
+/* Whether an earlier type has the type's label but for the column. Under the mutex. */
+bool type_label_was_met(const struct type *type);
 void locks_left(uintptr_t from, uintptr_t to, uint32_t youngest);
 /* The first held mutex whose record has that number or a higher one; *at becomes its number. Under the mutex. */
 struct lock *lock_held_from(uint32_t *at, int32_t *holder);
